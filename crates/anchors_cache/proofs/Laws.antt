@@ -1,0 +1,437 @@
+-- Laws of the tables' rows, and of the rules on windows of them.
+use Prim.Native.Nat.{ℕ, zero, suc, _+_, _-_, _*_, _/_, _≤_, _<_}
+use mathlib.Core.Path.{_≡_, refl, sym, ap, subst, _∙_}
+use mathlib.Core.Bool.{Bool, true, false}
+use mathlib.Core.List.{List, [], _∷_, _++_, map}
+use mathlib.Core.Option.{Option, none, some}
+use mathlib.Core.Logic.{⊎-elim}
+use native.Mathlib.Nat.{eq-zero-or-pos}
+use native.Mathlib.Omega.{arith}
+use lib.Dec.{ltb, leb}
+use lib.ListN.{length, take, drop, replicate, length-map, length-take, length-drop, length-append}
+use lib.Seq.{drop-drop, sets, length-sets}
+use borrow.Author.Tests.{lt-ltb, le-ltb, le-leb, lt-leb, leb-true, leb-false}
+use Rattle.rows.specs.Rows.{pick, part, le, word, rows, numAt, written, stays, appended, appendAnswer, appendedIfFits}
+use Rattle.rows.proofs.Laws.{rows-cons, rows-back, rows-length, rows-drop, rows-take, part-part, part-length, sets-append, length-le, sets-all, num-in, written-in, append-some, appended-some, fits-yes}
+use Rattle.rows.specs.declared.Appended.{Appended}
+use Rattle.rows.specs.declared.Appended.the-variants.{Behind, Moved, NoRoom}
+use Rattle.anchors_cache.specs.declared.AnchorsCache.{AnchorsCache}
+use Rattle.anchors_cache.specs.Rules.{Info, Row, dropStale, keepFront, trimBack, trimHistory, infoTime, lastOf, lastNotAbove, infoAtCt, frontOf, orElse, total}
+use Rattle.anchors_cache.specs.Tables.{historyBytes, anchorRow, infoRow, anchorOf, infoOf, anchors, infos, anchorAt, infoAt}
+use Rattle.anchors_cache.specs.Windows.{rowTime, infoFor, usedBy, poppedBy, poppedCache, poppedTimes, Lies}
+use Rattle.anchors_cache.specs.Calls.{placedAt}
+
+-- ---- maps over rows
+pub map-append : {A B : Type 0} (f : A → B) (a b : List A) → map f (a ++ b) ≡ map f a ++ map f b
+map-append f [] b = refl
+map-append {B = B} f (x ∷ a) b = ap (λ (l : List B). f x ∷ l) (map-append f a b)
+
+drop-map : {A B : Type 0} (f : A → B) (k : ℕ) (l : List A) → drop k (map f l) ≡ map f (drop k l)
+drop-map f zero l = refl
+drop-map f (suc k) [] = refl
+drop-map f (suc k) (x ∷ l) = drop-map f k l
+
+take-map : {A B : Type 0} (f : A → B) (k : ℕ) (l : List A) → take k (map f l) ≡ map f (take k l)
+take-map f zero l = refl
+take-map f (suc k) [] = refl
+take-map {B = B} f (suc k) (x ∷ l) = ap (λ (m : List B). f x ∷ m) (take-map f k l)
+
+-- what rows of w bytes say, n of them from `start` and `first` rows on; both tables are such
+module _ {A : Type 0} (f : List ℕ → A) (w start : ℕ) where
+  abbrev pub says : ℕ → ℕ → List ℕ → List A
+  says first n l = map f (rows w n (drop (start + w * first) l))
+
+  module _ (next : (first : ℕ) → start + w * (first + 1) ≡ start + w * first + w) where
+    pub says-cons : (first n : ℕ) (l : List ℕ) → 0 < n → says first n l ≡ f (part (start + w * first) w l) ∷ says (first + 1) (n - 1) l
+    says-cons first n l p = rw (rows-cons w n (start + w * first) l p, next first)
+
+  pub says-length : (first n : ℕ) (l : List ℕ) → length (says first n l) ≡ n
+  says-length first n l = length-map (rows w n (drop (start + w * first) l)) f ∙ rows-length w n _
+
+  module _ (more : (first k : ℕ) → start + w * first + w * k ≡ start + w * (first + k)) where
+    pub says-snoc : (first n : ℕ) (l : List ℕ) → 0 < n → says first n l ≡ says first (n - 1) l ++ (f (part (start + w * (first + (n - 1))) w l) ∷ [])
+    says-snoc first n l p =
+        rw (rows-back w n (drop (start + w * first) l) p, drop-drop (w * (n - 1)) (start + w * first) l, more first (n - 1))
+        (map-append f (rows w (n - 1) (drop (start + w * first) l)) (part (start + w * (first + (n - 1))) w l ∷ []))
+
+    pub says-drop : (first k n : ℕ) (l : List ℕ) → drop k (says first n l) ≡ says (first + k) (n - k) l
+    says-drop first k n l =
+        rw (drop-map f k (rows w n (drop (start + w * first) l)), rows-drop w k n (drop (start + w * first) l), drop-drop (w * k) (start + w * first) l, more first k)
+
+  pub says-take : (first k n : ℕ) (l : List ℕ) → k ≤ n → take k (says first n l) ≡ says first k l
+  says-take first k n l p = take-map f k (rows w n (drop (start + w * first) l)) ∙ rw (rows-take w k n (drop (start + w * first) l) p)
+
+-- ---- the window of the anchors
+pub anchors-cons : (first n : ℕ) (l : List ℕ) → 0 < n → anchors first n l ≡ anchorAt first l ∷ anchors (first + 1) (n - 1) l
+unfolding anchors
+anchors-cons = says-cons anchorOf 50 historyBytes (λ (first : ℕ). omega arith)
+
+pub anchors-length : (first n : ℕ) (l : List ℕ) → length (anchors first n l) ≡ n
+unfolding anchors
+anchors-length = says-length anchorOf 50 historyBytes
+
+pub anchors-snoc : (first n : ℕ) (l : List ℕ) → 0 < n → anchors first n l ≡ anchors first (n - 1) l ++ (anchorAt (first + (n - 1)) l ∷ [])
+unfolding anchors
+anchors-snoc = says-snoc anchorOf 50 historyBytes (λ (first k : ℕ). omega arith)
+
+pub anchors-drop : (first k n : ℕ) (l : List ℕ) → drop k (anchors first n l) ≡ anchors (first + k) (n - k) l
+unfolding anchors
+anchors-drop = says-drop anchorOf 50 historyBytes (λ (first k : ℕ). omega arith)
+
+pub anchors-take : (first k n : ℕ) (l : List ℕ) → k ≤ n → take k (anchors first n l) ≡ anchors first k l
+unfolding anchors
+anchors-take = says-take anchorOf 50 historyBytes
+
+pub anchors-none : (first k : ℕ) (l : List ℕ) → k ≤ 0 → anchors first k l ≡ []
+unfolding anchors rows
+anchors-none first zero l p = refl
+anchors-none first (suc k) l p = absurd (omega arith)
+
+-- ---- the window of the history
+abbrev at-zero : (first : ℕ) → 0 + 52 * first ≡ 52 * first
+at-zero first = omega arith
+
+infos-says : (first n : ℕ) (l : List ℕ) → infos first n l ≡ says infoOf 52 0 first n l
+unfolding infos
+infos-says first n l = rw (at-zero first)
+
+pub infos-cons : (first n : ℕ) (l : List ℕ) → 0 < n → infos first n l ≡ infoAt first l ∷ infos (first + 1) (n - 1) l
+infos-cons first n l p =
+    rw (infos-says first n l, infos-says (first + 1) (n - 1) l) (says-cons infoOf 52 0 (λ (i : ℕ). omega arith) first n l p ∙ rw (at-zero first))
+
+pub infos-length : (first n : ℕ) (l : List ℕ) → length (infos first n l) ≡ n
+infos-length first n l = rw (infos-says first n l) (says-length infoOf 52 0 first n l)
+
+pub infos-snoc : (first n : ℕ) (l : List ℕ) → 0 < n → infos first n l ≡ infos first (n - 1) l ++ (infoAt (first + (n - 1)) l ∷ [])
+infos-snoc first n l p =
+    rw (infos-says first n l, infos-says first (n - 1) l) (says-snoc infoOf 52 0 (λ (i k : ℕ). omega arith) first n l p ∙ rw (at-zero (first + (n - 1))))
+
+pub infos-end : (first n k : ℕ) (l : List ℕ) → k ≤ n → drop (n - k) (infos first n l) ≡ infos (first + (n - k)) k l
+infos-end first n k l p =
+    let e : n - (n - k) ≡ k = omega arith in
+    rw (infos-says first n l, infos-says (first + (n - k)) k l) (says-drop infoOf 52 0 (λ (i j : ℕ). omega arith) first (n - k) n l ∙ rw e)
+
+pub infos-take : (first k n : ℕ) (l : List ℕ) → k ≤ n → take k (infos first n l) ≡ infos first k l
+infos-take first k n l p = rw (infos-says first n l, infos-says first k l) (says-take infoOf 52 0 first k n l p)
+
+pub infos-none : (first k : ℕ) (l : List ℕ) → k ≤ 0 → infos first k l ≡ []
+unfolding infos rows
+infos-none first zero l p = refl
+infos-none first (suc k) l p = absurd (omega arith)
+
+-- ---- the messages of anchors
+pub total-more : (first k : ℕ) (l : List ℕ) → 0 < k → total (anchors first k l) ≡ anchorAt first l .count + total (anchors (first + 1) (k - 1) l)
+unfolding total
+total-more first k l p = rw (anchors-cons first k l p)
+
+pub total-none : (first k : ℕ) (l : List ℕ) → k ≤ 0 → total (anchors first k l) ≡ 0
+unfolding total
+total-none first k l p = rw (anchors-none first k l p)
+
+-- ---- stale history: a turn of the loop, and its two ends
+module _ (first k ct : ℕ) (l : List ℕ) where
+  stale-step : 1 < k → dropStale ct (infos first k l) ≡ pick (ltb (infoAt first l .time) ct) (dropStale ct (infos (first + 1) (k - 1) l)) (infos first k l)
+  unfolding dropStale
+  stale-step p = rw (infos-cons first k l (omega arith), infos-cons (first + 1) (k - 1) l (omega arith))
+
+  pub stale-more : 1 < k → infoAt first l .time < ct → dropStale ct (infos first k l) ≡ dropStale ct (infos (first + 1) (k - 1) l)
+  stale-more p q = stale-step p ∙ rw (lt-ltb _ _ q)
+
+  pub stale-stop : 1 < k → ct ≤ infoAt first l .time → dropStale ct (infos first k l) ≡ infos first k l
+  stale-stop p q = stale-step p ∙ rw (le-ltb _ _ q)
+
+pub stale-few : (first k ct : ℕ) (l : List ℕ) → k ≤ 1 → dropStale ct (infos first k l) ≡ infos first k l
+unfolding dropStale infos rows
+stale-few first zero ct l p = refl
+stale-few first (suc zero) ct l p = refl
+stale-few first (suc (suc k)) ct l p = absurd (omega arith)
+
+pub stale-le : (ct : ℕ) (l : List Info) → length (dropStale ct l) ≤ length l
+unfolding dropStale
+stale-le ct [] = omega arith
+stale-le ct (x ∷ []) = omega arith
+stale-le ct (x ∷ y ∷ l) =
+    elim (ltb (x .time) ct) as (λ b. length (pick b (dropStale ct (y ∷ l)) (x ∷ y ∷ l)) ≤ length (x ∷ y ∷ l)) [
+      | true ↦ omega (arith, stale-le ct (y ∷ l))
+      | false ↦ omega arith
+    ]
+
+pub fresh-le : (ct first len : ℕ) (l : List ℕ) → length (dropStale ct (infos first len l)) ≤ len
+fresh-le ct first len l = omega (arith, stale-le ct (infos first len l), infos-length first len l)
+
+-- ---- pops one after the other
+popped-empty : (tables : List ℕ) (c : AnchorsCache) → c .len ≤ 0 → poppedCache tables c ≡ c
+unfolding poppedCache
+popped-empty tables c e = ap (λ (l : List Row). poppedBy l tables c) (anchors-none (c .first) (c .len) tables e)
+
+popped-lies-some : (tables : List ℕ) (c : AnchorsCache) → 0 < c .len → Lies tables c → Lies tables (poppedCache tables c)
+unfolding poppedCache
+popped-lies-some tables c nonempty p =
+    let w = anchors-cons (c .first) (c .len) tables nonempty in
+    let a = anchorAt (c .first) tables in
+    let l = anchors (c .first + 1) (c .len - 1) tables in
+    let t = total-more (c .first) (c .len) tables nonempty in
+    let f = fresh-le (a .time) (c .«history_first») (c .«history_len») tables in
+    rw w (record { tall = p .tall; in-anchors = omega (arith, p .in-anchors); in-history = omega (arith, p .in-history); in-memory = omega (arith, p .in-memory) })
+
+pub popped-lies : (tables : List ℕ) (c : AnchorsCache) → Lies tables c → Lies tables (poppedCache tables c)
+popped-lies tables c p =
+    ⊎-elim (λ (e : c .len ≡ 0). subst (Lies tables) (sym (popped-empty tables c (omega arith))) p) (λ (q : 0 < c .len). popped-lies-some tables c q p) (eq-zero-or-pos (c .len))
+
+pub times-more : (n : ℕ) (tables : List ℕ) (c : AnchorsCache) → 0 < n → poppedTimes n tables c ≡ poppedTimes (n - 1) tables (poppedCache tables c)
+unfolding poppedTimes
+times-more zero tables c p = absurd (omega arith)
+times-more (suc n) tables c p = let e : suc n - 1 ≡ n = omega arith in rw e
+
+pub times-none : (n : ℕ) (tables : List ℕ) (c : AnchorsCache) → n ≤ 0 → poppedTimes n tables c ≡ c
+unfolding poppedTimes
+times-none zero tables c p = refl
+times-none (suc n) tables c p = absurd (omega arith)
+
+pub times-empty : (n : ℕ) (tables : List ℕ) (c : AnchorsCache) → c .len ≤ 0 → poppedTimes n tables c ≡ c
+unfolding poppedTimes
+times-empty zero tables c p = refl
+times-empty (suc n) tables c p = ap (poppedTimes n tables) (popped-empty tables c p) ∙ times-empty n tables c p
+
+-- ---- trimming from the back
+module _ {A : Type 0} (time : A → ℕ) (ct : ℕ) where
+  keep-snoc : (y x : A) (l : List A) → keepFront time ct y (l ++ (x ∷ [])) ≡ y ∷ (l ++ (x ∷ []))
+  keep-snoc y x [] = refl
+  keep-snoc y x (z ∷ l) = refl
+
+  keep-pick : (b : Bool) (y x : A) (l : List A) → keepFront time ct y (pick b (trimBack time ct l) (l ++ (x ∷ []))) ≡ pick b (trimBack time ct (y ∷ l)) (y ∷ (l ++ (x ∷ [])))
+  unfolding trimBack
+  keep-pick true y x l = refl
+  keep-pick false y x l = keep-snoc y x l
+
+  -- the last element decides
+  pub trim-snoc : (l : List A) (x : A) → trimBack time ct (l ++ (x ∷ [])) ≡ pick (ltb ct (time x)) (trimBack time ct l) (l ++ (x ∷ []))
+  unfolding trimBack
+  trim-snoc [] x = refl
+  trim-snoc (y ∷ l) x = ap (keepFront time ct y) (trim-snoc l x) ∙ keep-pick (ltb ct (time x)) y x l
+
+  pub trim-le : (l : List A) → length (trimBack time ct l) ≤ length l
+  unfolding trimBack
+  trim-le [] = omega arith
+  trim-le (x ∷ l) = go (trimBack time ct l) (trim-le l)
+    where
+      one : (b : Bool) → length (pick b [] (x ∷ [])) ≤ length (x ∷ l)
+      one true = omega arith
+      one false = omega arith
+
+      go : (m : List A) → length m ≤ length l → length (keepFront time ct x m) ≤ length (x ∷ l)
+      go [] p = one (ltb ct (time x))
+      go (y ∷ m) p = omega arith
+
+  -- what stays is the beginning of the list
+  pub trim-prefix : (l : List A) → take (length (trimBack time ct l)) l ≡ trimBack time ct l
+  unfolding trimBack
+  trim-prefix [] = refl
+  trim-prefix (x ∷ l) = go (trimBack time ct l) (trim-prefix l)
+    where
+      one : (b : Bool) → take (length (pick b [] (x ∷ []))) (x ∷ l) ≡ pick b [] (x ∷ [])
+      one true = refl
+      one false = refl
+
+      go : (m : List A) → take (length m) l ≡ m → take (length (keepFront time ct x m)) (x ∷ l) ≡ keepFront time ct x m
+      go [] p = one (ltb ct (time x))
+      go (y ∷ m) p = ap (λ (k : List A). x ∷ k) p
+
+-- a turn of the loop over the anchors
+module _ (ct first k : ℕ) (l : List ℕ) where
+  kept-step : 0 < k → trimBack rowTime ct (anchors first k l) ≡ pick (ltb ct (anchorAt (first + (k - 1)) l .time)) (trimBack rowTime ct (anchors first (k - 1) l)) (anchors first k l)
+  kept-step p = rw (anchors-snoc first k l p) (trim-snoc rowTime ct (anchors first (k - 1) l) (anchorAt (first + (k - 1)) l))
+
+  pub kept-more : 0 < k → ct < anchorAt (first + (k - 1)) l .time → trimBack rowTime ct (anchors first k l) ≡ trimBack rowTime ct (anchors first (k - 1) l)
+  kept-more p q = kept-step p ∙ rw (lt-ltb _ _ q)
+
+  pub kept-stop : 0 < k → anchorAt (first + (k - 1)) l .time ≤ ct → trimBack rowTime ct (anchors first k l) ≡ anchors first k l
+  kept-stop p q = kept-step p ∙ rw (le-ltb _ _ q)
+
+pub kept-none : (ct first k : ℕ) (l : List ℕ) → k ≤ 0 → trimBack rowTime ct (anchors first k l) ≡ anchors first k l
+unfolding trimBack
+kept-none ct first k l p = rw (anchors-none first k l p)
+
+pub kept-le : (ct first n : ℕ) (l : List ℕ) → length (trimBack rowTime ct (anchors first n l)) ≤ n
+kept-le ct first n l = omega (arith, trim-le rowTime ct (anchors first n l), anchors-length first n l)
+
+-- the history, whose front stays
+module _ (ct : ℕ) where
+  cons-pick : (b : Bool) (y x : Info) (l : List Info) → y ∷ pick b (trimBack infoTime ct l) (l ++ (x ∷ [])) ≡ pick b (trimHistory ct (y ∷ l)) (y ∷ (l ++ (x ∷ [])))
+  unfolding trimHistory
+  cons-pick true y x l = refl
+  cons-pick false y x l = refl
+
+  history-snoc : (l : List Info) (x : Info) → 0 < length l → trimHistory ct (l ++ (x ∷ [])) ≡ pick (ltb ct (infoTime x)) (trimHistory ct l) (l ++ (x ∷ []))
+  unfolding trimHistory
+  history-snoc [] x p = absurd (omega arith)
+  history-snoc (y ∷ l) x p = ap (λ (m : List Info). y ∷ m) (trim-snoc infoTime ct l x) ∙ cons-pick (ltb ct (infoTime x)) y x l
+
+  pub history-le : (l : List Info) → length (trimHistory ct l) ≤ length l
+  unfolding trimHistory
+  history-le [] = omega arith
+  history-le (x ∷ l) = omega (arith, trim-le infoTime ct l)
+
+  module _ (first k : ℕ) (l : List ℕ) where
+    history-step : 1 < k → trimHistory ct (infos first k l) ≡ pick (ltb ct (infoAt (first + (k - 1)) l .time)) (trimHistory ct (infos first (k - 1) l)) (infos first k l)
+    history-step p =
+        let e = infos-length first (k - 1) l in
+        rw (infos-snoc first k l (omega arith)) (history-snoc (infos first (k - 1) l) (infoAt (first + (k - 1)) l) (omega arith))
+
+    pub history-more : 1 < k → ct < infoAt (first + (k - 1)) l .time → trimHistory ct (infos first k l) ≡ trimHistory ct (infos first (k - 1) l)
+    history-more p q = history-step p ∙ rw (lt-ltb _ _ q)
+
+    pub history-stop : 1 < k → infoAt (first + (k - 1)) l .time ≤ ct → trimHistory ct (infos first k l) ≡ infos first k l
+    history-stop p q = history-step p ∙ rw (le-ltb _ _ q)
+
+  pub history-few : (first k : ℕ) (l : List ℕ) → k ≤ 1 → trimHistory ct (infos first k l) ≡ infos first k l
+  unfolding trimHistory trimBack infos rows
+  history-few first zero l p = refl
+  history-few first (suc zero) l p = refl
+  history-few first (suc (suc k)) l p = absurd (omega arith)
+
+pub history-kept-le : (ct first n : ℕ) (l : List ℕ) → length (trimHistory ct (infos first n l)) ≤ n
+history-kept-le ct first n l = omega (arith, history-le ct (infos first n l), infos-length first n l)
+
+history-prefix : (ct : ℕ) (l : List Info) → take (length (trimHistory ct l)) l ≡ trimHistory ct l
+unfolding trimHistory
+history-prefix ct [] = refl
+history-prefix ct (x ∷ l) = ap (λ (m : List Info). x ∷ m) (trim-prefix infoTime ct l)
+
+-- the windows that a trim leaves
+pub kept-window : (ct first n : ℕ) (l : List ℕ) → anchors first (length (trimBack rowTime ct (anchors first n l))) l ≡ trimBack rowTime ct (anchors first n l)
+kept-window ct first n l = sym (anchors-take first _ n l (kept-le ct first n l)) ∙ trim-prefix rowTime ct (anchors first n l)
+
+pub kept-history : (ct first n : ℕ) (l : List ℕ) → infos first (length (trimHistory ct (infos first n l))) l ≡ trimHistory ct (infos first n l)
+kept-history ct first n l = sym (infos-take first _ n l (history-kept-le ct first n l)) ∙ history-prefix ct (infos first n l)
+
+-- ---- the last of a list
+pub last-snoc : {A : Type 0} (l : List A) (x : A) → lastOf (l ++ (x ∷ [])) ≡ some x
+unfolding lastOf
+last-snoc [] x = refl
+last-snoc (y ∷ []) x = refl
+last-snoc (y ∷ z ∷ l) x = last-snoc (z ∷ l) x
+
+pub last-info : (first n : ℕ) (l : List ℕ) → 0 < n → lastOf (infos first n l) ≡ some (infoAt (first + (n - 1)) l)
+last-info first n l p = rw (infos-snoc first n l p) (last-snoc (infos first (n - 1) l) (infoAt (first + (n - 1)) l))
+
+pub last-anchor : (first n : ℕ) (l : List ℕ) → 0 < n → lastOf (anchors first n l) ≡ some (anchorAt (first + (n - 1)) l)
+last-anchor first n l p = rw (anchors-snoc first n l p) (last-snoc (anchors first (n - 1) l) (anchorAt (first + (n - 1)) l))
+
+-- the entry that `last_imported_anchor_info_at_ct` answers is the last that a trim leaves
+pub last-some : {A : Type 0} (y : A) (l : List A) (o : Option A) → orElse (lastOf (y ∷ l)) o ≡ lastOf (y ∷ l)
+unfolding lastOf
+last-some y [] o = refl
+last-some y (z ∷ l) o = last-some z l o
+
+module _ (ct : ℕ) where
+  not-above : {A : Type 0} (t : ℕ) (x y : A) → pick (ltb ct t) y x ≡ pick (leb t ct) x y
+  not-above t x y = go (leb t ct) refl
+    where
+      go : (b : Bool) → leb t ct ≡ b → pick (ltb ct t) y x ≡ pick b x y
+      go true e = rw (le-ltb ct t (leb-true t ct e))
+      go false e = rw (lt-ltb ct t (leb-false t ct e))
+
+  last-kept : (l : List Info) → lastNotAbove ct l ≡ lastOf (trimBack infoTime ct l)
+  unfolding lastNotAbove trimBack lastOf
+  last-kept [] = refl
+  last-kept (x ∷ l) = ap (λ (o : Option Info). orElse o (pick (leb (x .time) ct) (some x) none)) (last-kept l) ∙ go (trimBack infoTime ct l)
+    where
+      one : (b : Bool) → pick {A = Option Info} b none (some x) ≡ lastOf (pick b [] (x ∷ []))
+      one true = refl
+      one false = refl
+
+      go : (m : List Info) → orElse (lastOf m) (pick (leb (x .time) ct) (some x) none) ≡ lastOf (keepFront infoTime ct x m)
+      go [] = sym (not-above (x .time) (some x) none) ∙ one (ltb ct (x .time))
+      go (y ∷ m) = last-some y m _
+
+  pub at-ct : (l : List Info) → lastOf (trimHistory ct l) ≡ infoAtCt ct l
+  unfolding trimHistory infoAtCt lastNotAbove lastOf
+  at-ct [] = refl
+  at-ct (x ∷ l) = go (trimBack infoTime ct l) ∙ ap (λ (o : Option Info). orElse (orElse o (pick (leb (x .time) ct) (some x) none)) (some x)) (sym (last-kept l))
+    where
+      one : (b : Bool) → some x ≡ orElse (pick b (some x) none) (some x)
+      one true = refl
+      one false = refl
+
+      go : (m : List Info) → lastOf (x ∷ m) ≡ orElse (orElse (lastOf m) (pick (leb (x .time) ct) (some x) none)) (some x)
+      go [] = one (leb (x .time) ct)
+      go (y ∷ m) = rw (last-some y m (pick (leb (x .time) ct) (some x) none), last-some y m (some x))
+
+-- ---- rows read: a number, or the author, of a row that lies in the table
+module _ (l : List ℕ) (at m : ℕ) (fits : at + m ≤ length l) where
+  pub num-part : (a k : ℕ) → a + k ≤ m → numAt k (at + a) l ≡ word (part a k (part at m l))
+  num-part a k p = num-in k (at + a) l (omega arith) ∙ ap word (sym (part-part l at m a k p))
+
+  pub num-front : (k : ℕ) → k ≤ m → numAt k at l ≡ word (part 0 k (part at m l))
+  num-front k p = ap (λ (n : ℕ). numAt k n l) (omega arith) ∙ num-part 0 k (omega arith)
+
+pub author-copied : (l : List ℕ) (at : ℕ) → at + 32 ≤ length l → written 0 (take (at + 32 - at) (drop at l)) (replicate 32 0) ≡ part at 32 l
+author-copied l at p =
+    let e : at + 32 - at ≡ 32 = omega arith in
+    let n : length (part at 32 l) ≡ 32 = part-length l at 32 p in
+    rw e (written-in 0 (part at 32 l) (replicate 32 0) (omega arith) ∙ sets-all (replicate 32 0) (part at 32 l) n)
+
+-- ---- a window of a table after an append that fits
+module _ (start from n k cap len : ℕ) (lies : start + cap ≤ len) (held : from + n ≤ cap) (space : n + k ≤ cap) where
+  pub placed-fits : (first : ℕ) → placedAt (appendAnswer start from n k cap len) first ≡ pick (stays from n k cap) first 0
+  placed-fits first = ap (λ (a : Appended). placedAt a first) (append-some start from n k cap len (fits-yes start from n k cap len lies held space)) ∙ go (stays from n k cap)
+    where
+      go : (b : Bool) → placedAt (pick b Behind Moved) first ≡ pick b first 0
+      go true = refl
+      go false = refl
+
+  pub append-fits : (new l : List ℕ) → length new ≡ k → length l ≡ len → appendedIfFits start from n cap new l ≡ appended start from n cap new l
+  append-fits new l e f = appended-some start from n cap new l (rw (e, f) (fits-yes start from n k cap len lies held space))
+
+-- ---- rows written
+store : (m at : ℕ) (vs l : List ℕ) → length l ≡ m → at + length vs ≤ m → (written at vs l ≡ sets l at vs) × (length (sets l at vs) ≡ m)
+store m at vs l e p = (written-in at vs l (omega arith), length-sets l at vs ∙ e)
+
+-- five fields of a row of m bytes, each inside it
+five-stores : (m : ℕ) (l : List ℕ) → length l ≡ m → (p q r s t : ℕ) (u v w x y : List ℕ)
+    → p + length u ≤ m → q + length v ≤ m → r + length w ≤ m → s + length x ≤ m → t + length y ≤ m
+    → written t y (written s x (written r w (written q v (written p u l)))) ≡ sets (sets (sets (sets (sets l p u) q v) r w) s x) t y
+five-stores m l e p q r s t u v w x y a b c d f =
+    let one = store m p u l e a in
+    let two = store m q v (sets l p u) (one .1) b in
+    let three = store m r w (sets (sets l p u) q v) (two .1) c in
+    let four = store m s x (sets (sets (sets l p u) q v) r w) (three .1) d in
+    let five = store m t y (sets (sets (sets (sets l p u) q v) r w) s x) (four .1) f in
+    rw (one .0, two .0, three .0, four .0, five .0)
+
+module _ (a : Row) (full : length (a .author) ≡ 32) where
+  pub length-info : length (infoRow (infoFor a)) ≡ 52
+  unfolding infoRow
+  length-info = simp (length-append, length-le, full) refl
+
+  pub length-anchor : length (anchorRow a) ≡ 50
+  unfolding anchorRow
+  length-anchor = simp (length-append, length-le, full) refl
+
+  info-stores : (l : List ℕ) → length l ≡ 52
+      → sets (sets (sets (sets (sets l 0 (le 4 (a .id))) 4 (le 8 (a .time))) 12 (le 4 (a .count))) 16 (le 4 (a .ours))) 20 (a .author) ≡ infoRow (infoFor a)
+  unfolding infoRow
+  info-stores l e = sym (simp (sets-append, length-le) refl) ∙ sets-all l (infoRow (infoFor a)) (length-info ∙ sym e)
+
+  anchor-stores : (l : List ℕ) → length l ≡ 50
+      → sets (sets (sets (sets (sets l 0 (le 4 (a .id))) 4 (le 8 (a .time))) 12 (a .author)) 44 (le 4 (a .ours))) 48 (le 2 (a .count)) ≡ anchorRow a
+  unfolding anchorRow le
+  anchor-stores l e = sym (simp (sets-append, length-le, full) refl) ∙ sets-all l (anchorRow a) (length-anchor ∙ sym e)
+
+  num-fits : (at k v m : ℕ) → at + k ≤ m → at + length (le k v) ≤ m
+  num-fits at k v m p = rw (length-le k v) p
+
+  pub info-written : (l : List ℕ) → length l ≡ 52
+      → written 20 (a .author) (written 16 (le 4 (a .ours)) (written 12 (le 4 (a .count)) (written 4 (le 8 (a .time)) (written 0 (le 4 (a .id)) l)))) ≡ infoRow (infoFor a)
+  info-written l e =
+      five-stores 52 l e 0 4 12 16 20 (le 4 (a .id)) (le 8 (a .time)) (le 4 (a .count)) (le 4 (a .ours)) (a .author)
+      (num-fits 0 4 (a .id) 52 (omega arith)) (num-fits 4 8 (a .time) 52 (omega arith)) (num-fits 12 4 (a .count) 52 (omega arith)) (num-fits 16 4 (a .ours) 52 (omega arith)) (omega arith)
+      ∙ info-stores l e
+
+  pub anchor-written : (l : List ℕ) → length l ≡ 50
+      → written 48 (le 2 (a .count)) (written 44 (le 4 (a .ours)) (written 12 (a .author) (written 4 (le 8 (a .time)) (written 0 (le 4 (a .id)) l)))) ≡ anchorRow a
+  anchor-written l e =
+      five-stores 50 l e 0 4 12 44 48 (le 4 (a .id)) (le 8 (a .time)) (a .author) (le 4 (a .ours)) (le 2 (a .count))
+      (num-fits 0 4 (a .id) 50 (omega arith)) (num-fits 4 8 (a .time) 50 (omega arith)) (omega arith) (num-fits 44 4 (a .ours) 50 (omega arith)) (num-fits 48 2 (a .count) 50 (omega arith))
+      ∙ anchor-stores l e

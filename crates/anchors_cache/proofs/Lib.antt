@@ -1,0 +1,4 @@
+pub mod Laws
+pub mod Asked
+pub mod Adding
+pub mod Answers

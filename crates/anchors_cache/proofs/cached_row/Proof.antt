@@ -1,0 +1,39 @@
+use borrow.Author.Tests.{ltb-true, leb-true}
+use lib.Dec.{ltb, leb}
+use Rattle.rows.proofs.Laws.{and-true}
+use Rattle.anchors_cache.specs.Calls.{rowAt}
+use Prim.Native.Nat.{ℕ, suc, zero, _+_, _-_, _*_, _/_, _%_, _^_, _≤_, _<_}
+use mathlib.Core.Path.{_≡_, refl, sym, ap, _∙_}
+use mathlib.Core.Bool.{Bool, true, false}
+use mathlib.Core.List.{List, [], _∷_, _++_}
+use mathlib.Core.Logic.{⊎-elim}
+use native.Mathlib.Omega.{arith}
+use lib.ListN.{length, getD, take, drop, set, length-set}
+use borrow.Author.Tests.{lt-ltb, le-ltb, le-leb, lt-leb, eq-eqb, ne-eqb, not-true, not-false}
+use borrow.Author.Needs.{needs}
+use Rattle.anchors_cache.proofs.cached_row.Statement.{statement}
+use Rattle.anchors_cache.proofs.cached_row.Tie as tie
+use Rattle.anchors_cache.proofs.cached_row.Reads as reads
+use Rattle.anchors_cache.proofs.cached_row.Lts as lts
+use Rattle.anchors_cache.proofs.tables.anchor_at.Reads as anchor-at-reads
+use Rattle.anchors_cache.proofs.tables.has_row.Reads as has-row-reads
+
+has-row-requires : tie.Need-has-row-requires
+has-row-requires c κs = search needs
+
+anchor-at-requires : tie.Need-anchor-at-requires
+anchor-at-requires c κs =
+    let c-args = c .before .before .before .args in
+    let p = and-true (ltb (c-args .i) 32) (leb 14912 (length (c-args .tables .now))) (sym (c .before .has-row .ensures) ∙ c .if1 .taken) in
+    (ltb-true _ _ (p .0), leb-true _ _ (p .1))
+
+returns : tie.Need-returns
+unfolding rowAt
+returns c = rw (sym (c .before .before .has-row .ensures) ∙ c .before .if1 .taken) (c .anchor-at .ensures .0)
+
+returns-2 : tie.Need-returns-2
+unfolding rowAt
+returns-2 c = rw (sym (c .before .has-row .ensures) ∙ c .if1 .left)
+
+pub cached-row-spec : {M : Type 1} → statement M
+cached-row-spec = tie.close (tie.spec has-row-requires anchor-at-requires returns returns-2)

@@ -1,0 +1,60 @@
+use Rattle.anchors_cache.specs.Tables.{historyOf}
+use Rattle.anchors_cache.specs.Calls.{infoAtCtCall, infoAnswer}
+use Rattle.anchors_cache.proofs.Laws.{history-kept-le, kept-history, at-ct}
+use Rattle.anchors_cache.proofs.Asked.{on-not, seen-parts}
+use Prim.Native.Nat.{ℕ, suc, zero, _+_, _-_, _*_, _/_, _%_, _^_, _≤_, _<_}
+use mathlib.Core.Path.{_≡_, refl, sym, ap, _∙_}
+use mathlib.Core.Bool.{Bool, true, false}
+use mathlib.Core.List.{List, [], _∷_, _++_}
+use mathlib.Core.Logic.{⊎-elim}
+use native.Mathlib.Omega.{arith}
+use lib.ListN.{length, getD, take, drop, set, length-set}
+use borrow.Author.Tests.{lt-ltb, le-ltb, le-leb, lt-leb, eq-eqb, ne-eqb, not-true, not-false}
+use borrow.Author.Needs.{needs}
+use Rattle.anchors_cache.proofs.last_imported_anchor_info_at_ct.Statement.{statement}
+use Rattle.anchors_cache.proofs.last_imported_anchor_info_at_ct.Tie as tie
+use Rattle.anchors_cache.proofs.last_imported_anchor_info_at_ct.Reads as reads
+use Rattle.anchors_cache.proofs.last_imported_anchor_info_at_ct.Lts as lts
+use Rattle.anchors_cache.proofs.questions.refusal_seen.Reads as refusal-seen-reads
+use Rattle.anchors_cache.proofs.shown_info.Reads as shown-info-reads
+use Rattle.anchors_cache.proofs.tables.history_kept_len.Reads as history-kept-len-reads
+
+refusal-seen-requires : tie.Need-refusal-seen-requires
+refusal-seen-requires c κs = search needs
+
+returns : tie.Need-returns
+unfolding infoAtCtCall infoAnswer
+returns c = rw (← c .before .refusal-seen .ensures, on-not _ _ _ (c .if1 .taken))
+
+history-kept-len-requires : tie.Need-history-kept-len-requires
+history-kept-len-requires c κs =
+    let c-args = c .before .before .before .before .args in
+    let p = seen-parts (c-args .tables .now) (c-args .t) (sym (c .before .before .refusal-seen .ensures) ∙ c .before .if1 .left) in
+    (p .in-history, p .tall)
+
+shown-info-requires : tie.Need-shown-info-requires
+shown-info-requires c κs =
+    let c-args = c .before .before .before .before .before .args in
+    let p = seen-parts (c-args .tables .now) (c-args .t) (sym (c .before .before .before .refusal-seen .ensures) ∙ c .before .before .if1 .left) in
+    (omega (arith, p .in-history, c .history-kept-len .ensures, history-kept-le (c-args .ct .0) (c-args .t .cache .«history_first») (c-args .t .cache .«history_len») (c-args .tables .now)), p .tall)
+
+returns-2 : tie.Need-returns-2
+unfolding infoAtCtCall infoAnswer
+returns-2 c =
+    let c-args = c .before .before .before .before .before .before .args in
+    rw (
+      (sym (c .before .before .before .before .refusal-seen .ensures) ∙ c .before .before .before .if1 .left),
+      ← at-ct (c-args .ct .0) (historyOf (c-args .tables .now) (c-args .t .cache)),
+      ← kept-history (c-args .ct .0) (c-args .t .cache .«history_first») (c-args .t .cache .«history_len») (c-args .tables .now),
+      ← c .before .history-kept-len .ensures,
+    ) (c .shown-info .ensures)
+
+pub last-imported-anchor-info-at-ct-spec : {M : Type 1} → statement M
+last-imported-anchor-info-at-ct-spec =
+    tie.close
+    (tie.spec
+    refusal-seen-requires
+    returns
+    history-kept-len-requires
+    shown-info-requires
+    returns-2)

@@ -1,0 +1,43 @@
+use Rattle.anchors_cache.specs.Rules.{room}
+use Prim.Native.Nat.{ℕ, suc, zero, _+_, _-_, _*_, _/_, _%_, _^_, _≤_, _<_}
+use mathlib.Core.Path.{_≡_, refl, sym, ap, _∙_}
+use mathlib.Core.Bool.{Bool, true, false}
+use mathlib.Core.List.{List, [], _∷_, _++_}
+use mathlib.Core.Logic.{⊎-elim}
+use native.Mathlib.Omega.{arith}
+use lib.ListN.{length, getD, take, drop, set, length-set}
+use borrow.Author.Tests.{lt-ltb, le-ltb, le-leb, lt-leb, eq-eqb, ne-eqb, not-true, not-false}
+use borrow.Author.Needs.{needs}
+use Rattle.anchors_cache.proofs.questions.has_room.Statement.{statement}
+use Rattle.anchors_cache.proofs.questions.has_room.Tie as tie
+use Rattle.anchors_cache.proofs.questions.has_room.Reads as reads
+use Rattle.anchors_cache.proofs.questions.has_room.Lts as lts
+use Rattle.rows.proofs.sum_within.Reads as sum-within-reads
+
+returns : tie.Need-returns
+unfolding room
+returns c = rw (le-ltb (c .before .args .history) 256 (omega arith))
+
+returns-2 : tie.Need-returns-2
+unfolding room
+returns-2 c =
+    let c-args = c .before .before .args in
+    rw (lt-ltb (c-args .history) 256 (omega arith), le-ltb 0 (c-args .ours) (omega arith))
+
+returns-3 : tie.Need-returns-3
+unfolding room
+returns-3 c =
+    let c-args = c .before .before .before .args in
+    rw (lt-ltb (c-args .history) 256 (omega arith), lt-ltb 0 (c-args .ours) (omega arith), le-ltb (c-args .anchors) 32 (omega arith))
+
+sum-within-requires : tie.Need-sum-within-requires
+sum-within-requires c κs = search needs
+
+returns-4 : tie.Need-returns-4
+unfolding room
+returns-4 c =
+    let c-args = c .before .before .before .before .args in
+    rw (lt-ltb (c-args .history) 256 (omega arith), lt-ltb 0 (c-args .ours) (omega arith), lt-ltb (c-args .anchors) 32 (omega arith)) (c .sum-within .ensures)
+
+pub has-room-spec : {M : Type 1} → statement M
+has-room-spec = tie.close (tie.spec returns returns-2 returns-3 sum-within-requires returns-4)

@@ -1,0 +1,41 @@
+use Rattle.anchors_cache.specs.declared.CachedAnchor.{CachedAnchor}
+use Rattle.anchors_cache.specs.Rules.{lastOf}
+use Rattle.anchors_cache.proofs.Laws.{anchors-none, last-anchor}
+use Prim.Native.Nat.{ℕ, suc, zero, _+_, _-_, _*_, _/_, _%_, _^_, _≤_, _<_}
+use mathlib.Core.Path.{_≡_, refl, sym, ap, _∙_}
+use mathlib.Core.Bool.{Bool, true, false}
+use mathlib.Core.List.{List, [], _∷_, _++_}
+use mathlib.Core.Logic.{⊎-elim}
+use native.Mathlib.Omega.{arith}
+use lib.ListN.{length, getD, take, drop, set, length-set}
+use borrow.Author.Tests.{lt-ltb, le-ltb, le-leb, lt-leb, eq-eqb, ne-eqb, not-true, not-false}
+use borrow.Author.Needs.{needs}
+use Rattle.anchors_cache.proofs.questions.is_above.Statement.{statement}
+use Rattle.anchors_cache.proofs.questions.is_above.Tie as tie
+use Rattle.anchors_cache.proofs.questions.is_above.Reads as reads
+use Rattle.anchors_cache.proofs.questions.is_above.Lts as lts
+use Rattle.anchors_cache.proofs.tables.anchor_at.Reads as anchor-at-reads
+
+returns : tie.Need-returns
+unfolding lastOf
+returns c =
+    let c-args = c .before .before .args in
+    rw (anchors-none (c-args .first) (c-args .len) (c-args .tables .now) (omega arith))
+
+sub-anchor-at : tie.Need-sub-anchor-at
+sub-anchor-at c = search needs
+
+add-anchor-at : tie.Need-add-anchor-at
+add-anchor-at c = search needs
+
+anchor-at-requires : tie.Need-anchor-at-requires
+anchor-at-requires c κs = search needs
+
+returns-2 : tie.Need-returns-2
+returns-2 c =
+    let c-args = c .before .before .before .before .args in
+    rw (last-anchor (c-args .first) (c-args .len) (c-args .tables .now) (omega arith), ap (λ (x : CachedAnchor). x .id) (c .before .anchor-at .ensures .0))
+
+pub is-above-spec : {M : Type 1} → statement M
+is-above-spec =
+    tie.close (tie.spec returns sub-anchor-at add-anchor-at anchor-at-requires returns-2)

@@ -1,0 +1,33 @@
+use Rattle.anchors_cache.specs.Calls.{refusal}
+use Prim.Native.Nat.{ℕ, suc, zero, _+_, _-_, _*_, _/_, _%_, _^_, _≤_, _<_}
+use mathlib.Core.Path.{_≡_, refl, sym, ap, _∙_}
+use mathlib.Core.Bool.{Bool, true, false}
+use mathlib.Core.List.{List, [], _∷_, _++_}
+use mathlib.Core.Logic.{⊎-elim}
+use native.Mathlib.Omega.{arith}
+use lib.ListN.{length, getD, take, drop, set, length-set}
+use borrow.Author.Tests.{lt-ltb, le-ltb, le-leb, lt-leb, eq-eqb, ne-eqb, not-true, not-false}
+use borrow.Author.Needs.{needs}
+use Rattle.anchors_cache.proofs.questions.refusal_of.Statement.{statement}
+use Rattle.anchors_cache.proofs.questions.refusal_of.Tie as tie
+use Rattle.anchors_cache.proofs.questions.refusal_of.Reads as reads
+use Rattle.anchors_cache.proofs.questions.refusal_of.Lts as lts
+use Rattle.anchors_cache.proofs.questions.valid_state.Reads as valid-state-reads
+
+returns : tie.Need-returns
+unfolding refusal
+returns c = rw (lt-leb 33792 (c .before .before .args .n) (omega arith))
+
+valid-state-requires : tie.Need-valid-state-requires
+valid-state-requires c κs = search needs
+
+returns-2 : tie.Need-returns-2
+unfolding refusal
+returns-2 c = rw (le-leb 33792 (c .before .before .before .before .args .n) (omega arith), sym (c .before .valid-state .ensures) ∙ c .if2 .taken)
+
+returns-3 : tie.Need-returns-3
+unfolding refusal
+returns-3 c = rw (le-leb 33792 (c .before .before .before .before .args .n) (omega arith), sym (c .before .valid-state .ensures) ∙ c .if2 .left)
+
+pub refusal-of-spec : {M : Type 1} → statement M
+refusal-of-spec = tie.close (tie.spec returns valid-state-requires returns-2 returns-3)

@@ -1,0 +1,40 @@
+use Rattle.anchors_cache.proofs.Asked.{valid-not, valid-open, valid-shut}
+use Prim.Native.Nat.{ℕ, suc, zero, _+_, _-_, _*_, _/_, _%_, _^_, _≤_, _<_}
+use mathlib.Core.Path.{_≡_, refl, sym, ap, _∙_}
+use mathlib.Core.Bool.{Bool, true, false}
+use mathlib.Core.List.{List, [], _∷_, _++_}
+use mathlib.Core.Logic.{⊎-elim}
+use native.Mathlib.Omega.{arith}
+use lib.ListN.{length, getD, take, drop, set, length-set}
+use borrow.Author.Tests.{lt-ltb, le-ltb, le-leb, lt-leb, eq-eqb, ne-eqb, not-true, not-false}
+use borrow.Author.Needs.{needs}
+use Rattle.anchors_cache.proofs.questions.valid_state.Statement.{statement}
+use Rattle.anchors_cache.proofs.questions.valid_state.Tie as tie
+use Rattle.anchors_cache.proofs.questions.valid_state.Reads as reads
+use Rattle.anchors_cache.proofs.questions.valid_state.Lts as lts
+use Rattle.anchors_cache.proofs.questions.valid_cache.Reads as valid-cache-reads
+
+valid-cache-requires : tie.Need-valid-cache-requires
+valid-cache-requires c κs = search needs
+
+returns : tie.Need-returns
+returns c =
+    let c-args = c .before .before .before .before .args in
+    sym (valid-not (c-args .places) (c-args .tables .now) (c-args .t) (sym (c .before .valid-cache .ensures) ∙ not-true _ (c .if1 .taken)))
+
+valid-cache-requires-2 : tie.Need-valid-cache-requires-2
+valid-cache-requires-2 c κs = search needs
+
+returns-2 : tie.Need-returns-2
+returns-2 c =
+    let c-args = c .before .before .before .before .before .before .before .args in
+    c .valid-cache2 .ensures ∙ sym (valid-open (c-args .places) (c-args .tables .now) (c-args .t) (sym (c .before .before .before .before .valid-cache .ensures) ∙ not-false _ (c .before .before .before .if1 .left)) (c .before .before .if2 .taken))
+
+returns-3 : tie.Need-returns-3
+returns-3 c =
+    let c-args = c .before .before .before .before .before .args in
+    sym (valid-shut (c-args .places) (c-args .tables .now) (c-args .t) (sym (c .before .before .valid-cache .ensures) ∙ not-false _ (c .before .if1 .left)) (c .if2 .left))
+
+pub valid-state-spec : {M : Type 1} → statement M
+valid-state-spec =
+    tie.close (tie.spec valid-cache-requires returns valid-cache-requires-2 returns-2 returns-3)

@@ -1,0 +1,78 @@
+use Rattle.rows.specs.Rows.{part, word, numAt}
+use Rattle.anchors_cache.proofs.Laws.{num-part, num-front}
+use Prim.Native.Nat.{ℕ, suc, zero, _+_, _-_, _*_, _/_, _%_, _^_, _≤_, _<_}
+use mathlib.Core.Path.{_≡_, refl, sym, ap, _∙_}
+use mathlib.Core.Bool.{Bool, true, false}
+use mathlib.Core.List.{List, [], _∷_, _++_}
+use mathlib.Core.Logic.{⊎-elim}
+use native.Mathlib.Omega.{arith}
+use lib.ListN.{length, getD, take, drop, set, length-set}
+use borrow.Author.Tests.{lt-ltb, le-ltb, le-leb, lt-leb, eq-eqb, ne-eqb, not-true, not-false}
+use borrow.Author.Needs.{needs}
+use Rattle.anchors_cache.proofs.tables.anchor_at.Statement.{statement}
+use Rattle.anchors_cache.proofs.tables.anchor_at.Tie as tie
+use Rattle.anchors_cache.proofs.tables.anchor_at.Reads as reads
+use Rattle.anchors_cache.proofs.tables.anchor_at.Lts as lts
+use Rattle.rows.proofs.u16_at.Reads as u16-at-reads
+use Rattle.rows.proofs.u32_at.Reads as u32-at-reads
+use Rattle.rows.proofs.u64_at.Reads as u64-at-reads
+
+mul-at : tie.Need-mul-at
+mul-at c = search needs
+
+add-at : tie.Need-add-at
+add-at c = search needs
+
+u32-at-requires : tie.Need-u32-at-requires
+u32-at-requires c κs = search needs
+
+add-u64-at : tie.Need-add-u64-at
+add-u64-at c = search needs
+
+u64-at-requires : tie.Need-u64-at-requires
+u64-at-requires c κs = search needs
+
+add-u32-at : tie.Need-add-u32-at
+add-u32-at c = search needs
+
+u32-at-requires-2 : tie.Need-u32-at-requires-2
+u32-at-requires-2 c κs = search needs
+
+add-u16-at : tie.Need-add-u16-at
+add-u16-at c = search needs
+
+u16-at-requires : tie.Need-u16-at-requires
+u16-at-requires c κs = search needs
+
+cast-count : tie.Need-cast-count
+cast-count c = search needs
+
+returns : tie.Need-returns
+returns c =
+    let a = c .before .before .before .before .before .args in
+    let l = a .tables .now in
+    let at = 13312 + 50 * a .i in (
+      rw (
+        c .before .before .before .u32-at .ensures ∙ num-front l at 50 (omega arith) 4 (omega arith),
+        c .before .before .u64-at .ensures ∙ num-part l at 50 (omega arith) 4 8 (omega arith),
+        c .before .u32-at2 .ensures ∙ num-part l at 50 (omega arith) 44 4 (omega arith),
+        c .u16-at .ensures ∙ num-part l at 50 (omega arith) 48 2 (omega arith),
+      ),
+      search needs,
+    )
+
+pub anchor-at-spec : {M : Type 1} → statement M
+anchor-at-spec =
+    tie.close
+    (tie.spec
+    mul-at
+    add-at
+    u32-at-requires
+    add-u64-at
+    u64-at-requires
+    add-u32-at
+    u32-at-requires-2
+    add-u16-at
+    u16-at-requires
+    cast-count
+    returns)

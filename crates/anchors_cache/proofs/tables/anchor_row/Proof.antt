@@ -1,0 +1,79 @@
+use Rattle.anchors_cache.proofs.Laws.{anchor-written}
+use Rattle.anchors_cache.specs.Calls.{rowFor}
+use Rattle.rows.proofs.Laws.{written-in, length-le}
+use Prim.Native.Nat.{ℕ, suc, zero, _+_, _-_, _*_, _/_, _%_, _^_, _≤_, _<_}
+use mathlib.Core.Path.{_≡_, refl, sym, ap, _∙_}
+use mathlib.Core.Bool.{Bool, true, false}
+use mathlib.Core.List.{List, [], _∷_, _++_}
+use mathlib.Core.Logic.{⊎-elim}
+use native.Mathlib.Omega.{arith}
+use lib.ListN.{length, getD, take, drop, set, length-set}
+use borrow.Author.Tests.{lt-ltb, le-ltb, le-leb, lt-leb, eq-eqb, ne-eqb, not-true, not-false}
+use borrow.Author.Needs.{needs}
+use Rattle.anchors_cache.proofs.tables.anchor_row.Statement.{statement}
+use Rattle.anchors_cache.proofs.tables.anchor_row.Tie as tie
+use Rattle.anchors_cache.proofs.tables.anchor_row.Reads as reads
+use Rattle.anchors_cache.proofs.tables.anchor_row.Lts as lts
+use Rattle.rows.proofs.copy_in.Reads as copy-in-reads
+use Rattle.rows.proofs.put_le.Reads as put-le-reads
+
+slice-aggregate-put-le : tie.Need-slice-aggregate-put-le
+slice-aggregate-put-le c = search needs
+
+cast-put-le : tie.Need-cast-put-le
+cast-put-le c = search needs
+
+put-le-requires : tie.Need-put-le-requires
+put-le-requires c κs = search needs
+
+slice-aggregate-put-le-2 : tie.Need-slice-aggregate-put-le-2
+slice-aggregate-put-le-2 c = search needs
+
+put-le-requires-2 : tie.Need-put-le-requires-2
+put-le-requires-2 c κs = search needs
+
+slice-aggregate-copy-in : tie.Need-slice-aggregate-copy-in
+slice-aggregate-copy-in c = search needs
+
+slice-aggregate-copy-in-2 : tie.Need-slice-aggregate-copy-in-2
+slice-aggregate-copy-in-2 c = search needs
+
+copy-in-requires : tie.Need-copy-in-requires
+copy-in-requires c κs = search needs
+
+slice-aggregate-put-le-3 : tie.Need-slice-aggregate-put-le-3
+slice-aggregate-put-le-3 c = search needs
+
+put-le-requires-3 : tie.Need-put-le-requires-3
+put-le-requires-3 c κs = search needs
+
+slice-aggregate-put-le-4 : tie.Need-slice-aggregate-put-le-4
+slice-aggregate-put-le-4 c = search needs
+
+put-le-requires-4 : tie.Need-put-le-requires-4
+put-le-requires-4 c κs = search needs
+
+returns : tie.Need-returns
+returns c =
+    let a = c .before .before .before .before .before .before .before .before .before .before .before .before .before .before .before .before .before .before .before .args in
+    let full : length (a .a .author) ≡ 32 = search needs in
+    rw (c .before .put-le4 .ensures, c .before .before .before .before .put-le3 .ensures, c .before .before .before .before .before .before .before .copy-in .ensures, c .before .before .before .before .before .before .before .before .before .before .before .put-le2 .ensures, c .before .before .before .before .before .before .before .before .before .before .before .before .before .before .put-le .ensures)
+    (anchor-written (rowFor (a .a) (a .ours) (a .k)) full _ refl)
+
+pub anchor-row-spec : {M : Type 1} → statement M
+anchor-row-spec =
+    tie.close
+    (tie.spec
+    slice-aggregate-put-le
+    cast-put-le
+    put-le-requires
+    slice-aggregate-put-le-2
+    put-le-requires-2
+    slice-aggregate-copy-in
+    slice-aggregate-copy-in-2
+    copy-in-requires
+    slice-aggregate-put-le-3
+    put-le-requires-3
+    slice-aggregate-put-le-4
+    put-le-requires-4
+    returns)

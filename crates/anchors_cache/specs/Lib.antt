@@ -1,0 +1,4 @@
+pub mod Rules
+pub mod Tables
+pub mod Windows
+pub mod Calls

@@ -1,0 +1,158 @@
+// Fullness of buffers, by count. Messages themselves stay with the host; a buffer is its count.
+ghost use mathlib.Core.Path.{_≡_};
+ghost use Rattle.messages_buffer.specs.Fullness.{isFull, limitFits, countFits, hasLimit, fullPartition, limitsNumber, partitionsNumber, allLimited, rangeFull, fillState};
+
+// The most that a buffer's count or limit may be.
+pub const BUFFER_CAP: u32 = 1024;
+
+// In a table of limits: the partition has no limit, that is no entry. It never means unbounded.
+pub const NO_LIMIT: u16 = 65535;
+
+// One partition's record in a range. Where it is not present its numbers are free.
+pub struct ExternalsPartitionRangeReaderState {
+    pub count: u32,
+    pub skip_offset: u32,
+    pub processed_offset: u32,
+    pub present: bool,
+}
+
+// Number 0 and whether any buffer of the range is full, or the number of the question that was answered "no".
+pub struct FillState {
+    pub number: u8,
+    pub full: bool,
+}
+
+// Whether one buffer is full.
+pub fn check_is_filled(count: u32, limit: u16) -> bool
+    ensures { λ r. ⌜ r ≡ isFull count limit ⌝ }
+{
+    let most = limit as u32;
+    most <= count
+}
+
+fn limit_fits(limit: u16) -> bool
+    ensures { λ r. ⌜ r ≡ limitFits limit ⌝ }
+{
+    if limit == NO_LIMIT {
+        return true;
+    }
+    let most = limit as u32;
+    most <= BUFFER_CAP
+}
+
+fn count_fits(partition: ExternalsPartitionRangeReaderState) -> bool
+    ensures { λ r. ⌜ r ≡ countFits partition ⌝ }
+{
+    if !partition.present {
+        return true;
+    }
+    partition.count <= BUFFER_CAP
+}
+
+fn has_limit(limit: u16, partition: ExternalsPartitionRangeReaderState) -> bool
+    ensures { λ r. ⌜ r ≡ hasLimit limit partition ⌝ }
+{
+    if !partition.present {
+        return true;
+    }
+    limit != NO_LIMIT
+}
+
+fn is_full_partition(limit: u16, partition: ExternalsPartitionRangeReaderState) -> bool
+    ensures { λ r. ⌜ r ≡ fullPartition limit partition ⌝ }
+{
+    if !partition.present {
+        return false;
+    }
+    check_is_filled(partition.count, limit)
+}
+
+// Question 4 of the limits: 0 or 4.
+pub fn check_limits(limits: [u16; 8]) -> u8
+    ensures { λ r. ⌜ r ≡ limitsNumber limits ⌝ }
+{
+    let mut i = 0;
+    while i < 8 {
+        if !limit_fits(limits[i]) {
+            return 4;
+        }
+        i += 1;
+    }
+    0
+}
+
+// Question 5 of a range's partitions: 0 or 5.
+pub fn check_partitions(partitions: [ExternalsPartitionRangeReaderState; 8]) -> u8
+    ensures { λ r. ⌜ r ≡ partitionsNumber partitions ⌝ }
+{
+    let mut i = 0;
+    while i < 8 {
+        let p = partitions[i];
+        if !count_fits(p) {
+            return 5;
+        }
+        i += 1;
+    }
+    0
+}
+
+fn all_limited(limits: [u16; 8], partitions: [ExternalsPartitionRangeReaderState; 8]) -> bool
+    ensures { λ r. ⌜ r ≡ allLimited limits partitions ⌝ }
+{
+    let mut i = 0;
+    while i < 8 {
+        let p = partitions[i];
+        if !has_limit(limits[i], p) {
+            return false;
+        }
+        i += 1;
+    }
+    true
+}
+
+fn any_full(limits: [u16; 8], partitions: [ExternalsPartitionRangeReaderState; 8]) -> bool
+    ensures { λ r. ⌜ r ≡ rangeFull limits partitions ⌝ }
+{
+    let mut i = 0;
+    while i < 8 {
+        let p = partitions[i];
+        if is_full_partition(limits[i], p) {
+            return true;
+        }
+        i += 1;
+    }
+    false
+}
+
+// Whether any buffer of a range is full; questions 4, 5 and 10 come first.
+pub fn get_max_buffers_fill_state(
+    limits: [u16; 8],
+    partitions: [ExternalsPartitionRangeReaderState; 8],
+) -> FillState
+    ensures { λ r. ⌜ r ≡ fillState limits partitions ⌝ }
+{
+    let of_limits = check_limits(limits);
+    if of_limits != 0 {
+        return FillState {
+            number: of_limits,
+            full: false,
+        };
+    }
+    let of_partitions = check_partitions(partitions);
+    if of_partitions != 0 {
+        return FillState {
+            number: of_partitions,
+            full: false,
+        };
+    }
+    if !all_limited(limits, partitions) {
+        return FillState {
+            number: 10,
+            full: false,
+        };
+    }
+    FillState {
+        number: 0,
+        full: any_full(limits, partitions),
+    }
+}

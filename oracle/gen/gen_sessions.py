@@ -1,0 +1,593 @@
+#!/usr/bin/env python3
+"""Random sessions of `extread` (document 01), in the binary record form.
+
+  gen_sessions.py --seed N                     one session on standard output
+  gen_sessions.py --seed N --count K --dir D   K sessions with seeds N..N+K-1 as D/NNNNNN.bin
+  gen_sessions.py --every 5 --dir D            all sequences of five do bytes over one cache
+  gen_sessions.py --sample                     document 01's sample session
+  gen_sessions.py --named NAME                 a small hand-made session (see --list)
+  --kind plain|malformed|caps|mixed|beyond     (mixed: mostly plain; the default;
+                                                beyond: for `oracle -x` only)
+"""
+import argparse
+import itertools
+import os
+import random
+import struct
+import sys
+
+OPEN, POP, READ, REFILL, COMMIT, ROLLBACK, CLOSE = range(1, 8)
+NONE = 0xFFFF
+
+
+def rec(kind, payload):
+    return struct.pack('<IH', 2 + len(payload), kind) + payload
+
+
+def shard(workchain, prefix):
+    return rec(1, struct.pack('<iQ', workchain, prefix))
+
+
+def route(workchain, account, partition):
+    return rec(2, struct.pack('<b', workchain) + account + bytes([partition]))
+
+
+def settings(next_ct, timeout, seqno, open_limit, waiting, limits):
+    limits = list(limits) + [NONE] * (8 - len(limits))
+    return rec(3, struct.pack('<QIIBB8H', next_ct, timeout, seqno, open_limit, waiting, *limits))
+
+
+def anchor(aid, ct, ours, msgs, author=None, count=None):
+    if author is None:
+        author = bytes((aid + ct + 7 * i) % 256 for i in range(32))
+    body = struct.pack('<IQ', aid, ct) + author
+    body += struct.pack('<IH', ours, len(msgs) if count is None else count)
+    for wc, acc in msgs:
+        body += struct.pack('<b', wc) + acc
+    return rec(4, body)
+
+
+def do(n):
+    return rec(5, bytes([n]))
+
+
+def acc(first, tail=0):
+    return struct.pack('>Q', first) + bytes(23) + bytes([tail])
+
+
+FULL = 0x8000000000000000
+A = acc(0)
+
+
+def sample():
+    return [shard(0, FULL), settings(61000, 60, 5, 4, 0, [2]),
+            anchor(1, 1000, 1, [(0, A)]),
+            anchor(2, 2000, 2, [(0, A), (-1, A), (0, A)]),
+            do(OPEN), do(READ), do(CLOSE)]
+
+
+def named():
+    head = [shard(0, FULL)]
+    m = (0, A)
+    return {
+        'sample': sample(),
+        # open-ranges limit 0 or 1: the Rust takes max(limit, 2)
+        'open_limit_0': head + [settings(1000, 60, 5, 0, 0, [2]), do(OPEN), do(READ), do(CLOSE)],
+        # no limit at all: the range is made and skipped, never read
+        'no_limits': head + [settings(1000, 60, 5, 4, 0, []), anchor(1, 1000, 1, [m]),
+                             do(OPEN), do(READ), do(READ), do(CLOSE)],
+        # a message of ours for a partition without a limit: 12
+        'no_processed': head + [settings(1000, 60, 5, 4, 0, [NONE, 2]), anchor(1, 1000, 1, [m]),
+                                do(OPEN), do(READ), do(READ), do(CLOSE)],
+        # end with a transaction left open
+        'left_open': head + [settings(1000, 60, 5, 4, 0, [2]), anchor(1, 1000, 1, [m]),
+                             do(OPEN), do(POP)],
+        # Refill first: the mark is set, nothing is ever read
+        'refill_first': head + [settings(1000, 60, 5, 4, 0, [2]), anchor(1, 1000, 1, [m]),
+                                do(OPEN), do(REFILL), do(READ), do(CLOSE)],
+        # an anchor without ours: pending stays
+        'ours_0': head + [settings(1000, 60, 5, 4, 0, [2]), anchor(1, 1000, 0, [m])],
+        # limit 0, front expired: popped, nothing buffered
+        'limit_0_expired': head + [settings(61001, 60, 5, 4, 0, [0]), anchor(1, 1000, 1, [m]),
+                                   anchor(2, 1001, 1, [m]), do(OPEN), do(READ), do(COMMIT), do(CLOSE)],
+        # cache goes back, range does not
+        'rollback': head + [settings(2000, 60, 5, 4, 0, [1]), anchor(1, 1000, 1, [m]),
+                            anchor(2, 1001, 2, [m, m]), do(OPEN), do(READ), do(ROLLBACK),
+                            do(READ), do(CLOSE), do(OPEN), do(READ), do(COMMIT), do(CLOSE)],
+        # block seqno 0: the last seqno (0) is not below it
+        'seqno_0': head + [settings(1000, 60, 0, 4, 0, [2]), anchor(1, 1000, 1, [m]),
+                           do(OPEN), do(READ), do(CLOSE)],
+        # position past a later, shorter anchor of the same id
+        'short_again': head + [settings(1000, 60, 5, 4, 0, [2]), anchor(3, 1000, 3, [m, m, m]),
+                               do(OPEN), do(READ), do(COMMIT), do(CLOSE), do(POP),
+                               anchor(3, 1000, 1, [m]), do(OPEN), do(READ), do(COMMIT), do(CLOSE)],
+        # ours 0 is judged by question 7 too, and only by the last cached anchor
+        'ours_0_low_id': head + [settings(1000, 60, 5, 4, 0, [2]), anchor(5, 1000, 0, [m]),
+                                 anchor(3, 1000, 1, [m]), anchor(4, 1000, 0, [m]), anchor(3, 1000, 0, [m])],
+        # an add while one is open: 6 to 8 come before 9
+        'add_open_7': head + [settings(1000, 60, 5, 4, 0, [2]), anchor(3, 1000, 1, [m]), do(OPEN),
+                              anchor(3, 1000, 1, [m])],
+        'add_open_9': head + [settings(1000, 60, 5, 4, 0, [2]), anchor(3, 1000, 1, [m]), do(OPEN),
+                              anchor(4, 1000, 1, [m])],
+        # full cache of 1,024 messages: an anchor without ours still goes to history
+        'ours_0_over_cap': head + [settings(1000, 60, 5, 4, 0, [2]), anchor(1, 1000, 1, [m] * 512),
+                                   anchor(2, 1000, 1, [m] * 512), anchor(3, 1000, 0, [m]),
+                                   anchor(4, 1000, 1, [m])],
+        # own range fully read with history: position from history, also past what was read
+        'from_history': head + [settings(1000, 60, 5, 4, 0, [2]), anchor(1, 1000, 1, [m]),
+                                anchor(7, 1000, 0, [m, m, m]), do(OPEN), do(READ), do(CLOSE)],
+        # for -x: the last range has partition 1, which the reader lacks; partition 0 alone
+        # already makes the Rust answer "no" (its walk stops there), document 01 asks 15 first
+        'x_short_circuit': head + [settings(1000, 60, 5, 4, 0, [2]),
+                                   rec(0x101, struct.pack('<I', 4) + bytes(36) + struct.pack('<QB', 1000, 0)
+                                       + struct.pack('<BIII', 1, 0, 0, 5) + struct.pack('<BIII', 1, 0, 0, 0)
+                                       + bytes(13 * 6)),
+                                   rec(0x113, bytes([5, 0, 0]))],
+        # for -x: document 01's table, "one history entry at 5, pop of anchor at 9"
+        'x_history_stays': head + [settings(1000, 60, 5, 4, 0, [2]),
+                                   rec(0x106, struct.pack('<IQII', 1, 5, 1, 0) + bytes(32)),
+                                   rec(0x107, anchor(2, 9, 1, [m])[6:]), do(POP)],
+        # for -x: document 01's table, position (2,4), 3 messages, ToTheEnd: 11
+        'x_endless': head + [settings(1000, 60, 5, 4, 0, [9]),
+                             rec(0x101, struct.pack('<I', 5) + bytes(12) + struct.pack('<IQIQQB', 2, 4, 2, 4, 1000, 0)
+                                 + struct.pack('<BIII', 1, 0, 0, 0) + bytes(13 * 7)),
+                             anchor(2, 1000, 3, [m, m, m]), do(OPEN), do(READ),
+                             rec(0x111, struct.pack('<IB', 5, 1)), do(CLOSE)],
+        # for -x: the saved end is the one at entry; here it lies below the position, so that raising
+        # "to" must not bring it about
+        'x_saved_end_fixed': head + [settings(1000, 60, 5, 4, 0, [9]),
+                                     rec(0x101, struct.pack('<I', 4) + bytes(12) + struct.pack('<IQIQQB', 2, 0, 2, 1, 1000, 0)
+                                         + struct.pack('<BIII', 1, 0, 0, 0) + bytes(13 * 7)),
+                                     anchor(2, 1000, 3, [m, m, m]), do(OPEN), do(READ), do(CLOSE)],
+        'empty': [],
+        'only_shard': head,
+        'short_length': [struct.pack('<I', 1) + b'\x01'],
+    }
+
+
+def rand_shard(r):
+    wc = r.choice([0] * 9 + [-1] * 4 + [5, 5, 127, -128, 256, -2**31])
+    depth = r.choice([0, 0, 1, 1, 2, 3, 8, 59, 60])
+    top = r.getrandbits(depth) if depth else 0
+    prefix = ((top << 1) | 1) << (63 - depth)
+    return wc, depth, top, prefix
+
+
+def rand_accounts(r, depth, top):
+    """Some inside the shard, some just outside, some anywhere."""
+    res = []
+    low = 64 - depth
+    for i in range(r.randint(1, 4)):
+        w = (top << low) | (r.getrandbits(low) if low else 0)
+        if r.random() < 0.3 and low:
+            w = (top << low) | r.choice([0, (1 << low) - 1, 1 << (low - 1)])
+        res.append(acc(w, r.randint(0, 1)))
+    if depth:
+        for i in range(r.randint(0, 2)):
+            w = (top << low) | r.getrandbits(low)
+            res.append(acc(w ^ (1 << r.randint(low, 63)), r.randint(0, 1)))
+    if r.random() < 0.3:
+        res.append(bytes(r.getrandbits(8) for _ in range(32)))
+    return res
+
+
+def other_wc(r, wc):
+    return r.choice([w for w in (0, -1, 1, 5, 127, -128) if w != wc])
+
+
+def plain(r):
+    shard_wc, depth, top, prefix = rand_shard(r)
+    # a shard's workchain outside 8 bits: messages with its low byte are not ours
+    wc = struct.unpack('<b', struct.pack('<i', shard_wc)[:1])[0]
+    accounts = rand_accounts(r, depth, top)
+    timeout = r.choice([0, 1, 1, 60, 60, 0xFFFFFFFF])
+    next_ct = r.choice([0, 5, timeout * 1000, timeout * 1000 + 3000, timeout * 1000 + 9, timeout * 1000 + 5, timeout * 1000 + 2000, 2**64 - 1])
+    seqno = r.choice([0] + [1, 5, 5, 5, 7, 2**32 - 1] * 8)
+    limits = []
+    for p in range(8):
+        if p == 0:
+            limits.append(r.choice([0, 1, 1, 2, 2, 3, 3, 5, 1024, NONE]))
+        else:
+            limits.append(r.choice([NONE] * 6 + [0, 1, 1, 2, 2, 3, 1024]))
+    if r.random() < 0.5:
+        limits = limits[:1] + [r.choice([1, 2, 3, 4])] + [NONE] * 6
+    out = [shard(shard_wc, prefix),
+           settings(next_ct, timeout, seqno, r.choice([0, 1, 2, 3, 4, 16]),
+                    1 if r.random() < 0.04 else 0, limits)]
+    routed = set()
+    has = [p for p in range(8) if limits[p] != NONE]
+
+    def add_route():
+        a = r.choice(accounts)
+        w = wc if r.random() < 0.85 else other_wc(r, wc)
+        if (w, a) in routed:
+            return
+        routed.add((w, a))
+        p = r.choice(has) if has and r.random() < 0.93 else r.randint(0, 7)
+        out.append(route(w, a, p))
+
+    # where partition 0 has no limit, most sessions route every account away from it
+    if 0 not in has and has and r.random() < 0.8:
+        for a in accounts:
+            if (wc, a) not in routed:
+                routed.add((wc, a))
+                out.append(route(wc, a, r.choice(has)))
+    else:
+        for _ in range(r.randint(0, 3)):
+            add_route()
+
+    next_id = r.choice([0, 1, 1, 1, 2, 2**32 - 40])
+    adds = 0
+    young = r.choice([0.0, 0.5, 0.8, 0.95])
+    mine = r.choice([0.5, 0.85, 0.97])
+
+    def rand_ct():
+        edge = max(0, next_ct - timeout * 1000)
+        if r.random() < young:
+            return min(edge + r.choice([0, 0, 1, 2, 3, 1000]), 2**64 - 1)
+        c = r.choice([edge - 1, edge - 1, edge, edge, edge + 1, edge + 2, edge - 2, edge - 1000,
+                      next_ct, next_ct + 1, next_ct + 1000, r.randint(0, 3000)])
+        return min(max(c, 0), 2**64 - 1)
+
+    def rand_anchor(aid, size=None):
+        n = size if size is not None else r.choice([0, 1, 1, 1, 2, 2, 3, 3, 4, 5])
+        msgs = [(wc if r.random() < mine else other_wc(r, wc), r.choice(accounts)) for _ in range(n)]
+        ours = n if r.random() < 0.6 else r.randint(0, n)
+        if n and ours == 0 and r.random() < 0.7:
+            ours = 1
+        return anchor(aid, rand_ct(), ours, msgs, bytes([r.getrandbits(8)]) * 32)
+
+    if r.random() < 0.9:
+        for _ in range(r.randint(1, 6)):
+            out.append(rand_anchor(min(next_id, 2**32 - 1)))
+            adds += 1
+            next_id += r.choice([1, 1, 1, 2, 3])
+    opened = False
+    for _ in range(r.choice([3, 6, 10, 15, 25])):
+        x = r.random()
+        if not opened:
+            if x < 0.40:
+                for _ in range(r.randint(1, 4)):
+                    if next_id >= 2**32:
+                        break
+                    out.append(rand_anchor(next_id))
+                    adds += 1
+                    next_id += r.choice([1, 1, 1, 2, 3])
+            elif x < 0.80:
+                out.append(do(OPEN))
+                opened = True
+            elif x < 0.85:
+                out.append(do(POP))
+            elif x < 0.90:
+                # empty the cache, go back with the ids, so that an old id comes again
+                out.extend([do(POP)] * min(adds, 40))
+                next_id = max(0, next_id - r.randint(1, 5))
+            elif x < 0.93:
+                add_route()
+            elif x < 0.95:
+                out.append(do(r.choice([READ, REFILL, COMMIT, ROLLBACK, CLOSE])))
+            elif x < 0.97 and next_id > 0:
+                out.append(rand_anchor(r.randint(max(0, next_id - 3), min(next_id, 2**32 - 1))))
+        else:
+            if x < 0.40:
+                out.append(do(READ))
+            elif x < 0.44:
+                out.append(do(REFILL))
+            elif x < 0.60:
+                out.append(do(POP))
+            elif x < 0.70:
+                out.append(do(COMMIT))
+            elif x < 0.80:
+                out.append(do(ROLLBACK))
+            elif x < 0.94:
+                out.append(do(CLOSE))
+                opened = False
+            elif x < 0.97:
+                add_route()
+            elif x < 0.985:
+                out.append(do(OPEN))
+            elif x < 0.99:
+                out.append(rand_anchor(min(next_id, 2**32 - 1)))
+    if opened and r.random() < 0.8:
+        out.append(do(CLOSE))
+    return out
+
+
+def beyond(r):
+    """Sessions for `oracle -x`: several ranges, saved ends, refusals 10 to 16, the offset calls."""
+    wc, prefix = 0, r.choice([FULL, FULL, FULL >> 1, 0x4000000000000000])
+    tag = (prefix & -prefix).bit_length()
+    inside = [acc(((prefix >> tag) << tag) | r.getrandbits(tag - 1), i) for i in range(3)]
+    accounts = inside * 3 + [acc(r.getrandbits(64), 7)]
+    timeout = r.choice([0, 1, 60])
+    base = timeout * 1000 + 100
+    block = r.choice([3, 4, 5])
+    pars = sorted(r.sample(range(8), r.choice([1, 2, 2, 3])))
+    if r.random() < 0.7 and 0 not in pars:
+        pars = [0] + pars
+    top = r.choice([2, 4, 8, 1024])
+    limits = [r.randint(0, top) if p in pars and r.random() < 0.99 else NONE for p in range(8)]
+    if r.random() < 0.8:
+        limits = [NONE if x == NONE else max(x, 1) for x in limits]
+    out = [shard(wc, prefix), settings(base, timeout, block, r.choice([0, 1, 2, 3, 4, 16]),
+                                       1 if r.random() < 0.1 else 0, limits)]
+    for a in inside:
+        if r.random() < 0.7:
+            out.append(route(wc, a, r.choice(pars) if r.random() < 0.95 else r.randint(0, 7)))
+    ids, sizes = [], {}
+    loose = r.random() < 0.3    # a handed-in cache whose history need not fit its anchors
+
+    def cts():
+        return max(0, base - timeout * 1000 + r.choice([-60, -1, 0, 0, 1, 1, 2, 5, 50, 50, 50, 150, 150]))
+
+    nxt = r.choice([1, 1, 2, 5])
+
+    def add(n):
+        nonlocal nxt
+        for _ in range(n):
+            k = r.choice([0, 1, 2, 2, 3, 4, 6])
+            msgs = [(wc if r.random() < 0.9 else -1, r.choice(accounts)) for _ in range(k)]
+            one = anchor(nxt, cts(), r.randint(1, k) if k and r.random() < 0.95 else 0, msgs)
+            if loose and one[6 + 44:6 + 48] != bytes(4):
+                one = rec(0x107, one[6:])
+            elif loose and r.random() < 0.7:
+                one = rec(0x106, struct.pack('<IQII', r.randint(0, 9), cts(), r.randint(0, 5), 0) + bytes(32))
+            out.append(one)
+            if loose and r.random() < 0.3:
+                out.append(rec(0x106, struct.pack('<IQII', r.randint(0, 9), cts(), r.randint(0, 5), 0) + bytes(32)))
+            ids.append(nxt)
+            sizes[nxt] = k
+            nxt += r.choice([1, 1, 2])
+
+    def key():
+        if not ids or r.random() < 0.12:
+            return (r.randint(0, 8), r.randint(0, 4))
+        a = r.choice(ids)
+        if r.random() < 0.03:
+            return (a, r.choice([2**32, 2**63, 2**64 - 1]))
+        return (a, r.choice([0, sizes[a], sizes[a], sizes[a] + 1, r.randint(0, sizes[a])]))
+
+    def k12(k):
+        return struct.pack('<IQ', *k)
+
+    def near(k):
+        """A key at or a little after k."""
+        x = r.random()
+        if x < 0.4:
+            return k
+        later = [q for q in (key() for _ in range(6)) if q > k]
+        return min(later) if later else (k[0], min(k[1] + r.randint(0, 2), 2**64 - 1))
+
+    def ranges():
+        for s in sorted(r.sample(range(1, 7), r.choice([0, 1, 1, 2, 2, 3, 4]))):
+            if s > block and r.random() < 0.8:
+                continue
+            pos = (min(key(), key()) if r.random() < 0.7 else key()) if r.random() < 0.6 else (0, 0)
+            x = r.random()
+            to = near(pos) if x < 0.8 else (pos[0], max(0, pos[1] - r.randint(0, 2))) if x < 0.9 else key()
+            frm = pos if r.random() < 0.5 else (0, 0)
+            body = struct.pack('<I', s) + k12(frm) + k12(to) + k12(pos)
+            body += struct.pack('<QB', max(0, base + r.choice([0, 0, 0, -50, -1, 1, 60, 1000])),
+                                1 if r.random() < 0.15 else 0)
+            for p in range(8):
+                there = p in pars and r.random() < 0.99 or r.random() < 0.004
+                skip = r.choice([0, 0, 0, 1, 2, 3])
+                body += struct.pack('<BIII', there, r.choice([0, 0, 0, 1, 2]) if there else 0,
+                                    skip if there else 0, (skip + r.choice([0, 0, 1])) if there else 0)
+            out.append(rec(0x101, body))
+
+    def partitions():
+        for p in pars:
+            if r.random() < 0.8:
+                out.append(rec(0x102, struct.pack('<BB', p, 1 if r.random() < 0.97 else 0)
+                               + k12(key() if r.random() < 0.4 else (0, 0))
+                               + struct.pack('<I', r.choice([0, 0, 1, 2, 3, 2**32 - 1]))))
+
+    add(r.choice([0, 2, 3, 4, 5, 6]))
+    partitions()
+    ranges()
+    if r.random() < 0.15:
+        out.append(rec(0x104, struct.pack('<I', r.randint(0, 4))))
+    if r.random() < 0.1:
+        out.append(rec(0x103, struct.pack('<BBQ', r.randint(0, 1), r.randint(0, 1), 77)))
+    opened = False
+    if r.random() < 0.8:
+        out.append(do(OPEN))
+        opened = True
+    for _ in range(r.choice([4, 8, 14])):
+        x = r.random()
+        if not opened and x < 0.75:
+            if x < 0.25:
+                add(r.randint(1, 2))
+            out.append(do(OPEN))
+            opened = True
+        elif x < 0.08:
+            out.append(do(CLOSE))
+            opened = False
+        elif x < 0.30:
+            out.append(do(READ))
+        elif x < 0.42:
+            out.append(do(READ))
+        elif x < 0.50:
+            out.append(do(REFILL))
+        elif x < 0.62:
+            out.append(rec(0x111, struct.pack('<IB', r.choice([block, r.randint(1, 6)]), r.randint(0, 1))))
+        elif x < 0.67:
+            out.append(do(r.choice([POP, POP, COMMIT, ROLLBACK])))
+        elif x < 0.70:
+            out.append(rec(0x110, struct.pack('<Q', cts())))
+        elif x < 0.78:
+            out.append(rec(0x112, struct.pack('<IBI', r.choice([block, block, r.randint(1, 6)]), r.choice(pars), r.choice([0, 1, 1, 2]))))
+        elif x < 0.93:
+            out.append(rec(0x113, bytes([r.randint(1, 22), r.choice(pars) if r.random() < 0.9 else r.randint(0, 7), r.randint(0, 1)])))
+        elif x < 0.95:
+            out.append(rec(0x114, struct.pack('<Q', cts())))
+        elif x < 0.96:
+            out.append(rec(0x115, k12(key())))
+        elif x < 0.965:
+            out.append(rec(0x108, struct.pack('<I', r.choice([0, 33791, 33792]))))
+            if r.random() < 0.6:
+                out.append(do(r.randint(1, 7)))
+                out.append(rec(0x108, struct.pack('<I', 33792)))
+        elif x < 0.975:
+            out.append(rec(0x116, b''))
+        elif x < 0.985:
+            ranges()
+        else:
+            partitions()
+    return out
+
+
+def flat(recs):
+    return b''.join(recs)
+
+
+def malformed(r):
+    recs = plain(r)
+    how = r.randint(0, 15)
+    body = 2 if len(recs) > 2 else len(recs)
+    at = r.randint(body, len(recs))
+    if how == 0:
+        b = flat(recs)
+        return b[:r.randint(0, len(b))]
+    if how == 1:
+        recs.insert(r.randint(0, len(recs)), rec(r.choice([0, 6, 7, 9, 0x100, 0x500, 0xFFFF]), bytes(r.randint(0, 40))))
+    elif how == 2:
+        recs.insert(at, recs[r.choice([0, 1])])
+    elif how == 3:
+        del recs[r.choice([0, 1])]
+    elif how == 4:
+        recs[0], recs[1] = recs[1], recs[0]
+    elif how == 5:
+        recs.insert(at, do(r.choice([0, 8, 255])))
+    elif how == 6:
+        i = r.randrange(len(recs))
+        d = r.choice([-1, 1, 33, -33])
+        p = recs[i][6:]
+        p = p + bytes(d) if d > 0 else p[:d]
+        recs[i] = rec(struct.unpack('<H', recs[i][4:6])[0], p)
+    elif how == 7:
+        p = bytearray(recs[1])
+        p[6 + 17] = r.choice([2, 255])
+        recs[1] = bytes(p)
+    elif how == 8:
+        wc = struct.unpack('<i', recs[0][6:10])[0]
+        recs[0] = shard(wc, r.choice([0, 1, 2, 4, 8, FULL | 1, FULL | 2, FULL | 4, FULL | 8]))
+    elif how == 9:
+        p = bytearray(recs[1])
+        if r.random() < 0.5:
+            p[6 + 16] = r.choice([17, 255])
+        else:
+            struct.pack_into('<H', p, 6 + 18 + 2 * r.randint(0, 7), r.choice([1025, 2000, 0xFFFE]))
+        recs[1] = bytes(p)
+    elif how == 10:
+        recs.insert(at, route(0, acc(r.getrandbits(64)), r.choice([8, 255])))
+    elif how == 11:
+        a = acc(r.getrandbits(64), 9)
+        recs.insert(at, route(3, a, 1))
+        recs.append(route(3, a, r.randint(0, 7)))
+    elif how == 12:
+        recs.insert(at, anchor(r.randint(0, 99), 5, r.choice([2, 3, 2**32 - 1]), [(0, A)]))
+    elif how == 13:
+        recs.insert(at, anchor(r.randint(0, 99), 5, 0, [(0, A)], count=r.choice([0, 2, 65535])))
+    elif how == 14:
+        b = bytearray(flat(recs))
+        for _ in range(r.randint(1, 3)):
+            b[r.randrange(len(b))] = r.getrandbits(8)
+        return bytes(b)
+    else:
+        b = flat(recs)
+        return b + bytes(r.getrandbits(8) for _ in range(r.randint(1, 9)))
+    return flat(recs)
+
+
+def caps(r):
+    """Sessions at the caps: 512 and 513 messages, 32 and 33 anchors, 1,024 messages, 256 entries, 256 routes."""
+    wc = 0
+    lim = r.choice([1024, 1024, 3, 0, 600])
+    out = [shard(wc, FULL), settings(5000, 60, 5, r.choice([0, 16]), 0, [lim, r.choice([NONE, 1024, 2])])]
+    how = r.randint(0, 5)
+    accs = [acc(i << 40, i & 1) for i in range(300)]
+    if how == 0:
+        n = r.choice([512, 513])
+        out.append(anchor(1, 5, r.choice([0, 1, n]), [(0, r.choice(accs)) for _ in range(n)]))
+    elif how == 1:
+        for i in range(r.choice([31, 32, 33, 34])):
+            out.append(anchor(i + 1, i, 1, [(0, A)] * r.choice([1, 1, 2])))
+        if r.random() < 0.5:
+            out.append(anchor(100, 40, 0, [(0, A)] * 2))
+    elif how == 2:
+        total, i = 0, 0
+        while total < 1024 and i < 32:
+            n = r.choice([512, 300, 212, 200, 512])
+            i += 1
+            ours = r.choice([n, 1, 1, 0]) if r.random() < 0.2 else n
+            out.append(anchor(i, 1000 + i, ours, [(0, r.choice(accs)) for _ in range(n)]))
+            total += n if ours else 0
+    elif how == 3:
+        for i in range(r.choice([254, 255, 256, 257])):
+            out.append(anchor(i + 1, r.choice([i, 5]), 0, [(0, A)] * r.choice([0, 1])))
+        out.append(anchor(1000, 300, 1, [(0, A)]))
+    elif how == 4:
+        for i in range(r.choice([255, 256, 257])):
+            out.append(route(0, accs[i], i % 8))
+        out.append(anchor(1, 5, 5, [(0, accs[0]), (0, accs[1]), (0, accs[8]), (0, accs[9]), (0, accs[255])]))
+    else:
+        for k in range(3):
+            out.extend(anchor(k * 100 + i + 1, 100 * k + i, 1, [(0, A)]) for i in range(30))
+            out.extend([do(OPEN)] + [do(POP)] * r.choice([29, 30, 31]) + [do(r.choice([COMMIT, ROLLBACK])), do(CLOSE)])
+    out.extend([do(OPEN), do(READ), do(READ), do(r.choice([COMMIT, ROLLBACK, POP])), do(CLOSE)])
+    if how == 2:
+        # freed places serve again
+        out.append(anchor(900, 2000, 1, [(0, A)] * 500))
+        out.extend([do(OPEN), do(READ), do(COMMIT), do(CLOSE)])
+    return flat(out)
+
+
+def session(seed, kind):
+    r = random.Random(seed)
+    if kind == 'mixed':
+        x = r.random()
+        kind = 'plain' if x < 0.75 else 'malformed' if x < 0.97 else 'caps'
+    if kind == 'beyond':
+        return flat(beyond(r))
+    if kind == 'plain':
+        return flat(plain(r))
+    return malformed(r) if kind == 'malformed' else caps(r)
+
+
+def main():
+    p = argparse.ArgumentParser(description=__doc__, formatter_class=argparse.RawDescriptionHelpFormatter)
+    p.add_argument('--seed', type=int, default=1)
+    p.add_argument('--count', type=int)
+    p.add_argument('--dir')
+    p.add_argument('--kind', choices=['plain', 'malformed', 'caps', 'mixed', 'beyond'], default='mixed')
+    p.add_argument('--sample', action='store_true')
+    p.add_argument('--named')
+    p.add_argument('--list', action='store_true')
+    p.add_argument('--every', type=int)
+    a = p.parse_args()
+    if a.every:
+        os.makedirs(a.dir, exist_ok=True)
+        m = (0, A)
+        head = [shard(0, FULL), settings(61000, 60, 5, 4, 0, [2]), anchor(1, 999, 1, [m]), anchor(2, 1000, 1, [m]),
+                anchor(3, 2000, 2, [m, (-1, A), m]), anchor(4, 2000, 1, [m, m])]
+        for i, ds in enumerate(itertools.product(range(1, 8), repeat=a.every)):
+            with open(os.path.join(a.dir, '%06d.bin' % i), 'wb') as f:
+                f.write(flat(head + [do(d) for d in ds]))
+        return
+    if a.list:
+        print('\n'.join(named()))
+        return
+    if a.dir:
+        os.makedirs(a.dir, exist_ok=True)
+        for i in range(a.seed, a.seed + (a.count or 1)):
+            with open(os.path.join(a.dir, '%06d.bin' % i), 'wb') as f:
+                f.write(session(i, a.kind))
+        return
+    data = flat(sample()) if a.sample else flat(named()[a.named]) if a.named else session(a.seed, a.kind)
+    sys.stdout.buffer.write(data)
+
+
+if __name__ == '__main__':
+    main()
