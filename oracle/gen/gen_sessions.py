@@ -6,8 +6,9 @@
   gen_sessions.py --every 5 --dir D            all sequences of five do bytes over one cache
   gen_sessions.py --sample                     document 01's sample session
   gen_sessions.py --named NAME                 a small hand-made session (see --list)
-  --kind plain|malformed|caps|mixed|beyond     (mixed: mostly plain; the default;
-                                                beyond: for `oracle -x` only)
+  --kind plain|malformed|caps|mixed|beyond|range
+                                               (mixed: mostly plain; the default;
+                                                beyond, range: for `oracle -x` only)
 """
 import argparse
 import itertools
@@ -438,6 +439,219 @@ def beyond(r):
     return out
 
 
+def put_range(seqno, frm, to, pos, ct, fully, parts):
+    """Record 0101; parts: {partition: (count, skip, processed)}."""
+    body = struct.pack('<I', seqno) + b''.join(struct.pack('<IQ', *k) for k in (frm, to, pos))
+    body += struct.pack('<QB', ct, fully)
+    for p in range(8):
+        body += struct.pack('<BIII', 1, *parts[p]) if p in parts else bytes(13)
+    return rec(0x101, body)
+
+
+def put_partition(p, key, current=0, present=1):
+    return rec(0x102, struct.pack('<BBIQI', p, present, *key, current))
+
+
+def places(n):
+    return rec(0x104, struct.pack('<I', n))
+
+
+def one(seqno, to_previous):
+    return rec(0x111, struct.pack('<IB', seqno, to_previous))
+
+
+def one_range(r):
+    """Sessions for `oracle -x` of one range's read and the cache's calls alone (0005 without 3 and 4; no 0112, 0113,
+    0116): handed-in ranges, reader partitions and caches, both modes, edges of every offset and of the output."""
+    shard_wc, depth, top, prefix = rand_shard(r)
+    wc = struct.unpack('<b', struct.pack('<i', shard_wc)[:1])[0]
+    accounts = rand_accounts(r, depth, top)
+    timeout = r.choice([0, 1, 60, 60, 0xFFFFFFFF])
+    now = r.choice([0, 5, timeout * 1000, timeout * 1000 + 100, timeout * 1000 + 100, timeout * 1000 + 5000, 2**63, 2**64 - 1])
+    pars = sorted(set([0] * (r.random() < 0.85) + r.sample(range(1, 8), r.choice([0, 1, 1, 2, 3]))) or {1})
+    wide = r.random() < 0.3
+    limits = [NONE] * 8
+    for p in pars:
+        limits[p] = r.choice([0, 1, 1, 2, 2, 3, 3, 3]) if not wide else r.choice([3, 5, 9, 1024])
+        if r.random() < 0.02:
+            limits[p] = NONE
+    if r.random() < 0.1:
+        limits[r.randrange(8)] = r.randint(0, 3)
+    out = [shard(shard_wc, prefix), settings(now, timeout, 5, r.choice([0, 4, 16]), 0, limits)]
+    routed = set()
+    for a in accounts * (1 + (r.random() < 0.2)):
+        w = wc if r.random() < 0.9 else other_wc(r, wc)
+        if r.random() < 0.6 and ((w, a) not in routed or r.random() < 0.05):
+            routed.add((w, a))
+            out.append(route(w, a, r.choice(pars) if r.random() < 0.94 else r.choice([0, 1, 2, 3, 4, 5, 6, 7, 7, 8])))
+    if 0 not in pars and r.random() < 0.8:
+        for a in accounts:
+            if (wc, a) not in routed:
+                routed.add((wc, a))
+                out.append(route(wc, a, r.choice(pars)))
+    sizes = {}
+    nxt = r.choice([0, 1, 1, 1, 3, 3, 2**32 - 60])
+    young = r.choice([0.3, 0.8, 0.95, 1.0])
+    loose = r.random() < 0.4
+    big = r.random() < 0.01
+
+    def cts():
+        edge = max(0, now - timeout * 1000)
+        c = edge + r.choice([0, 0, 0, 1, 1, 2, 50]) if r.random() < young else edge + r.choice([-1000, -2, -1, -1, 0, 3, 2**40])
+        return min(max(c, 0), 2**64 - 1)
+
+    def history():
+        out.append(rec(0x106, struct.pack('<IQII', r.choice([nxt % 2**32, r.randint(0, 9)]), cts(), r.choice([0, 1, 5, 2**32 - 1]),
+                                          r.choice([0, 1, 2**32 - 1])) + bytes([r.getrandbits(8)]) * 32))
+
+    def add(n):
+        nonlocal nxt
+        for _ in range(n):
+            k = r.choice([1, 2, 2, 3, 4, 6]) if not big else r.choice([1, 100, 511, 512, 513])
+            msgs = [(wc if r.random() < 0.9 else other_wc(r, wc), r.choice(accounts)) for _ in range(k)]
+            ours = r.randint(1, k) if r.random() < 0.9 else r.choice([0, 0, 0, 0, 0, 0, k + 1])
+            aid = nxt if r.random() < 0.99 or not sizes else max(sizes)
+            payload = anchor(aid, cts(), ours, msgs, bytes([r.getrandbits(8)]) * 32)
+            if loose and ours and r.random() < 0.6:
+                payload = rec(0x107, payload[6:])
+            out.append(payload)
+            if loose and r.random() < 0.3:
+                history()
+            sizes[aid] = k
+            nxt = min(nxt + r.choice([1, 1, 1, 2, 3]), 2**32 - 1)
+
+    def key():
+        if not sizes or r.random() < 0.1:
+            return (r.randint(0, 9), r.randint(0, 4))
+        a = r.choice(list(sizes))
+        x = r.random()
+        if x < 0.06:
+            return (a, r.choice([2**32, 2**63, 2**64 - 1]))
+        if x < 0.12:
+            return (a, sizes[a] + r.choice([1, 1, 2, 7]))
+        if x < 0.18:
+            return (max(0, a - 1) if r.random() < 0.5 else min(a + 1, 2**32 - 1), r.choice([0, 1, 2**64 - 1]))
+        return (a, r.choice([0, 0, sizes[a], r.randint(0, sizes[a])]))
+
+    def near(k):
+        x = r.random()
+        if x < 0.35:
+            return k
+        later = [q for q in (key() for _ in range(6)) if q > k]
+        if x < 0.8 and later:
+            return min(later)
+        return (k[0], min(k[1] + r.randint(0, 2), 2**64 - 1)) if x < 0.95 else key()
+
+    seqnos = []
+
+    def ranges():
+        s = r.choice(seqnos + [r.choice([0, 4, 5, 5, 6, 2**32 - 1])])
+        if s not in seqnos:
+            seqnos.append(s)
+        pos = (0, 0) if r.random() < 0.3 else min(key(), key(), key()) if r.random() < 0.7 else key()
+        to = near(pos)
+        if r.random() < 0.1:
+            to = (pos[0], max(0, pos[1] - r.randint(0, 2)))
+        parts = {}
+        for p in range(8):
+            if p in pars and r.random() < 0.97 or r.random() < 0.005:
+                top = 3 if limits[p] == NONE else limits[p]
+                count = r.choice([0, 0, 0, 1, max(0, top - 1), top]) if r.random() < 0.3 else 0
+                if r.random() < 0.003:
+                    count = r.choice([1024, 1025, 2**32 - 1])
+                parts[p] = (count, r.choice([0, 0, 1, 3, 2**32 - 1]), r.choice([0, 0, 2, 2**32 - 1]))
+        ct = now if r.random() < 0.8 else min(max(0, now + r.choice([-50, -1, 1, 2, 60, 1000])), 2**64 - 1)
+        out.append(put_range(s, r.choice([pos, (0, 0), key()]), to, pos, ct, int(r.random() < 0.15), parts))
+
+    def partitions():
+        for p in pars + [r.randrange(8)] * (r.random() < 0.05):
+            if r.random() < 0.6:
+                out.append(put_partition(p, min(key(), key()) if r.random() < 0.5 else (0, 0), r.choice([0, 1, 2**32 - 1]), int(r.random() < 0.985)))
+
+    add(r.choice([0, 2, 3, 4, 5, 6]) if not big else r.randint(2, 5))
+    if r.random() < 0.7:
+        partitions()
+    for _ in range(r.choice([1, 1, 1, 2, 3])):
+        ranges()
+    if r.random() < 0.12:
+        out.append(places(r.choice([0, 0, 1, 1, 2, 3, 5, 2**32 - 1])))
+    if r.random() < 0.05:
+        out.append(rec(0x103, struct.pack('<BBQ', r.randint(0, 1), r.randint(0, 1), r.choice([0, 77, 2**64 - 1]))))
+    opened = r.random() < 0.9
+    if opened:
+        out.append(do(OPEN))
+    for _ in range(r.choice([2, 4, 8, 14])):
+        x = r.random()
+        if not opened and x < 0.6:
+            if x < 0.3:
+                add(r.randint(1, 3))
+            out.append(do(OPEN))
+            opened = True
+        elif x < 0.45:
+            out.append(one(r.choice(seqnos) if r.random() < 0.97 else r.randint(0, 9), r.randint(0, 1)))
+            if opened and r.random() < 0.35:
+                out.append(do(ROLLBACK))
+        elif x < 0.55:
+            out.append(do(CLOSE))
+            opened = False
+        elif x < 0.63:
+            out.append(do(r.choice([POP, COMMIT, COMMIT, ROLLBACK, ROLLBACK])))
+        elif x < 0.67:
+            out.append(rec(0x110, struct.pack('<Q', r.choice([cts(), cts(), 0, 2**64 - 1]))))
+        elif x < 0.75:
+            ranges()
+        elif x < 0.80:
+            partitions()
+        elif x < 0.84:
+            out.append(rec(0x114, struct.pack('<Q', r.choice([cts(), cts(), 0, 2**64 - 1]))))
+        elif x < 0.88:
+            out.append(rec(0x115, struct.pack('<IQ', *key())))
+        elif x < 0.91:
+            out.append(places(r.choice([0, 1, 2, 4, 1024])))
+        elif x < 0.93:
+            some = [r.choice([NONE, 0, 1, 2, 3, 1024]) if p in pars else NONE for p in range(8)]
+            if r.random() < 0.1:
+                some[r.randrange(8)] = r.choice([1025, 0xFFFE])
+            out.append(rec(0x105, struct.pack('<8H', *some)))
+        elif x < 0.95:
+            out.append(rec(0x108, struct.pack('<I', r.choice([0, 33791, 33792]))))
+            if r.random() < 0.7:
+                out.append(r.choice([do(r.choice([1, 2, 5, 6, 7])), one(r.choice(seqnos), 0), rec(0x110, bytes(8))]))
+                if r.random() < 0.8:
+                    out.append(rec(0x108, struct.pack('<I', 33792)))
+                    opened = r.random() < 0.5
+        elif x < 0.965:
+            history() if not opened or r.random() < 0.1 else out.append(do(OPEN))
+        elif x < 0.975:
+            add(1)
+        elif x < 0.985:
+            out.append(route(wc, acc(r.getrandbits(64)), r.choice(pars)))
+    if r.random() < 0.03:
+        out = spoiled(r, out)
+    return out
+
+
+def spoiled(r, recs):
+    """One record is made wrong: its length, its kind, a byte; or the session is cut."""
+    how, i = r.randint(0, 5), r.randrange(len(recs))
+    kind, p = struct.unpack('<H', recs[i][4:6])[0], recs[i][6:]
+    if how == 0:
+        recs[i] = rec(kind, p + bytes(r.choice([1, 13, 33])))
+    elif how == 1:
+        recs[i] = rec(kind, p[:-1])
+    elif how == 2:
+        recs[i] = rec(r.choice([0, 1, 3, 6, 0x100, 0x109, 0x117, 0xFFFF]), p)
+    elif how == 3 and kind in (0x101, 0x102, 0x103, 0x111):
+        at = {0x101: r.choice([48, 49, 140]), 0x102: r.choice([0, 1]), 0x103: r.choice([0, 1]), 0x111: 4}[kind]
+        recs[i] = rec(kind, p[:at] + bytes([r.choice([2, 8, 255])]) + p[at + 1:])
+    elif how == 4:
+        b = flat(recs)
+        return [b[:r.randint(0, len(b))]]
+    else:
+        recs[0] = shard(0, r.choice([0, 1, 2, 4, 8, FULL | 1, FULL | 2, FULL | 4, FULL | 8]))
+    return recs
+
+
 def flat(recs):
     return b''.join(recs)
 
@@ -551,6 +765,8 @@ def session(seed, kind):
         kind = 'plain' if x < 0.75 else 'malformed' if x < 0.97 else 'caps'
     if kind == 'beyond':
         return flat(beyond(r))
+    if kind == 'range':
+        return flat(one_range(r))
     if kind == 'plain':
         return flat(plain(r))
     return malformed(r) if kind == 'malformed' else caps(r)
@@ -561,7 +777,7 @@ def main():
     p.add_argument('--seed', type=int, default=1)
     p.add_argument('--count', type=int)
     p.add_argument('--dir')
-    p.add_argument('--kind', choices=['plain', 'malformed', 'caps', 'mixed', 'beyond'], default='mixed')
+    p.add_argument('--kind', choices=['plain', 'malformed', 'caps', 'mixed', 'beyond', 'range'], default='mixed')
     p.add_argument('--sample', action='store_true')
     p.add_argument('--named')
     p.add_argument('--list', action='store_true')

@@ -8,6 +8,7 @@ mod cache_bench;
 mod cache_steps;
 mod collator;
 mod questions;
+mod read_bench;
 mod records;
 mod refusals;
 mod session;
@@ -53,6 +54,7 @@ fn main() {
     match args.first().map(String::as_str) {
         Some("--cache-steps") => cache_steps::main(),
         Some("--bench") => cache_bench::main(&args[1..]),
+        Some("--bench-read") => read_bench::main(&args[1..]),
         _ => session::main(&args),
     }
 }

@@ -1,13 +1,10 @@
 -- The two halves of an add, and its two ends.
-use Prim.Native.Nat.{ℕ, zero, suc, _+_, _-_, _*_, _/_, _≤_, _<_}
-use mathlib.Core.Path.{_≡_, refl, sym, ap, _∙_}
-use mathlib.Core.Bool.{Bool, true, false}
-use mathlib.Core.List.{List, [], _∷_}
+use Prim.Native.Nat.{ℕ, _+_, _-_, _*_, _≤_, _<_}
+use mathlib.Core.Path.{_≡_, ap, _∙_}
+use mathlib.Core.List.{List}
 use native.Mathlib.Omega.{arith}
-use lib.Dec.{ltb}
 use lib.ListN.{length}
 use borrow.Author.Tests.{lt-ltb, le-ltb}
-use Rattle.rows.specs.Rows.{pick}
 use Rattle.rows.proofs.Laws.{appended-length}
 use Rattle.anchors_cache.specs.declared.AnchorsCache.{AnchorsCache}
 use Rattle.anchors_cache.specs.Rules.{Row}

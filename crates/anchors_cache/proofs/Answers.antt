@@ -1,18 +1,11 @@
 -- What the calls answer, from what their parts answer.
-use Prim.Native.Nat.{ℕ, zero, suc, _+_, _-_, _*_, _/_, _≤_, _<_}
-use mathlib.Core.Path.{_≡_, refl, sym, ap, _∙_}
-use mathlib.Core.Bool.{Bool, true, false}
-use mathlib.Core.List.{List, [], _∷_}
+use Prim.Native.Nat.{ℕ, zero, suc, _+_, _-_}
+use mathlib.Core.Path.{_≡_, refl, ap}
+use mathlib.Core.List.{List}
 use mathlib.Core.Option.{Option, none, some}
 use native.Mathlib.Omega.{arith}
-use lib.ListN.{length, take, drop}
-use Rattle.rows.specs.Rows.{pick, part}
-use Rattle.rows.proofs.Laws.{part-part}
-use Rattle.ext_types.specs.declared.ChainTime.{ChainTime}
 use Rattle.anchors_cache.specs.declared.AnchorInfo.{AnchorInfo}
-use Rattle.anchors_cache.specs.declared.AnchorAnswer.{AnchorAnswer}
 use Rattle.anchors_cache.specs.declared.InfoAnswer.{InfoAnswer}
-use Rattle.anchors_cache.specs.declared.IdAnswer.{IdAnswer}
 use Rattle.anchors_cache.specs.declared.FoundInfo.the-variants as info
 use Rattle.anchors_cache.specs.declared.FoundId.the-variants as id
 use Rattle.anchors_cache.specs.Rules.{Info, Row, total}

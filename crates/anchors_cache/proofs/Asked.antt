@@ -7,12 +7,11 @@ use native.Mathlib.Nat.{mul-div-le}
 use native.Mathlib.Omega.{arith}
 use lib.Dec.{ltb, leb}
 use lib.ListN.{length}
-use borrow.Author.Tests.{lt-ltb, le-ltb, le-leb, lt-leb, leb-true, leb-false, ltb-true, ltb-false}
+use borrow.Author.Tests.{lt-ltb, lt-leb, leb-true, leb-false, ltb-true}
 use Rattle.rows.specs.Rows.{pick}
 use Rattle.rows.proofs.Laws.{and-true}
 use Rattle.anchors_cache.specs.declared.AnchorsCache.{AnchorsCache}
 use Rattle.anchors_cache.specs.declared.AnchorsCacheTransaction.{AnchorsCacheTransaction}
-use Rattle.anchors_cache.specs.declared.Total.{Total}
 use Rattle.anchors_cache.specs.declared.Total.the-variants.{Messages, Unsound}
 use Rattle.anchors_cache.specs.Rules.{Row, soundRow, soundFrom, total, lastOf, aboveLast, sameBool, rightSize, room, pendingUpTo, ask, maxAnchors, maxAnchorMessages, maxMessages, maxHistory}
 use Rattle.anchors_cache.specs.Tables.{tablesBytes, anchors, anchorAt, anchorsOf}
@@ -162,7 +161,7 @@ module _ (n : ℕ) (tables : List ℕ) (t : AnchorsCacheTransaction) where
     add-refused p = two-refused (leb areaBytes n) (valid (placesIn n) tables t) _ p
 
     module _ (asked : refusal n tables t ≡ 0) where
-      add-asked : addNumber n tables t id ours k
+      pub add-asked : addNumber n tables t id ours k
           ≡ ask 6 (rightSize ours k)
           (ask 7 (aboveLast id (lastOf (anchorsOf tables (t .cache))))
           (ask 8 (room (t .cache .len) (usedBy tables (t .cache)) (t .cache .«history_len») ours (k / 33)) (ask 9 (not (t .active)) 0)))

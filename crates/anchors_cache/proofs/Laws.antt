@@ -1,5 +1,5 @@
 -- Laws of the tables' rows, and of the rules on windows of them.
-use Prim.Native.Nat.{ℕ, zero, suc, _+_, _-_, _*_, _/_, _≤_, _<_}
+use Prim.Native.Nat.{ℕ, zero, suc, _+_, _-_, _*_, _≤_, _<_}
 use mathlib.Core.Path.{_≡_, refl, sym, ap, subst, _∙_}
 use mathlib.Core.Bool.{Bool, true, false}
 use mathlib.Core.List.{List, [], _∷_, _++_, map}
@@ -8,17 +8,17 @@ use mathlib.Core.Logic.{⊎-elim}
 use native.Mathlib.Nat.{eq-zero-or-pos}
 use native.Mathlib.Omega.{arith}
 use lib.Dec.{ltb, leb}
-use lib.ListN.{length, take, drop, replicate, length-map, length-take, length-drop, length-append}
+use lib.ListN.{length, take, drop, replicate, length-map, length-append}
 use lib.Seq.{drop-drop, sets, length-sets}
-use borrow.Author.Tests.{lt-ltb, le-ltb, le-leb, lt-leb, leb-true, leb-false}
+use borrow.Author.Tests.{lt-ltb, le-ltb, leb-true, leb-false}
 use Rattle.rows.specs.Rows.{pick, part, le, word, rows, numAt, written, stays, appended, appendAnswer, appendedIfFits}
 use Rattle.rows.proofs.Laws.{rows-cons, rows-back, rows-length, rows-drop, rows-take, part-part, part-length, sets-append, length-le, sets-all, num-in, written-in, append-some, appended-some, fits-yes}
 use Rattle.rows.specs.declared.Appended.{Appended}
-use Rattle.rows.specs.declared.Appended.the-variants.{Behind, Moved, NoRoom}
+use Rattle.rows.specs.declared.Appended.the-variants.{Behind, Moved}
 use Rattle.anchors_cache.specs.declared.AnchorsCache.{AnchorsCache}
-use Rattle.anchors_cache.specs.Rules.{Info, Row, dropStale, keepFront, trimBack, trimHistory, infoTime, lastOf, lastNotAbove, infoAtCt, frontOf, orElse, total}
+use Rattle.anchors_cache.specs.Rules.{Info, Row, dropStale, keepFront, trimBack, trimHistory, infoTime, lastOf, lastNotAbove, infoAtCt, orElse, total}
 use Rattle.anchors_cache.specs.Tables.{historyBytes, anchorRow, infoRow, anchorOf, infoOf, anchors, infos, anchorAt, infoAt}
-use Rattle.anchors_cache.specs.Windows.{rowTime, infoFor, usedBy, poppedBy, poppedCache, poppedTimes, Lies}
+use Rattle.anchors_cache.specs.Windows.{rowTime, infoFor, poppedBy, poppedCache, poppedTimes, Lies}
 use Rattle.anchors_cache.specs.Calls.{placedAt}
 
 -- ---- maps over rows

@@ -1,5 +1,5 @@
 -- The questions of the cache's calls, and what each call answers, for every argument. n is the length of the message area.
-use Prim.Native.Nat.{ℕ, zero, suc, _+_, _-_, _*_, _/_}
+use Prim.Native.Nat.{ℕ, zero, suc, _+_, _/_}
 use mathlib.Core.Bool.{Bool, true, false, not, _&&_}
 use mathlib.Core.List.{List, [], _∷_}
 use mathlib.Core.Option.{Option, none, some}
@@ -30,9 +30,9 @@ use Rattle.anchors_cache.specs.declared.Total.the-variants.{Messages, Un
 use Rattle.anchors_cache.specs.declared.FoundAnchor.the-variants as anchor
 use Rattle.anchors_cache.specs.declared.FoundInfo.the-variants as info
 use Rattle.anchors_cache.specs.declared.FoundId.the-variants as id
-use Rattle.anchors_cache.specs.Rules.{Info, Row, lastOf, infoAtCt, soundRow, soundFrom, soundCache, total, sameBool, pendingUpTo, rightSize, aboveLast, room, ask, maxAnchors, maxAnchorMessages, maxHistory, maxMessages}
+use Rattle.anchors_cache.specs.Rules.{Info, Row, lastOf, infoAtCt, soundRow, soundFrom, total, sameBool, pendingUpTo, rightSize, aboveLast, room, ask, maxAnchors, maxAnchorMessages, maxHistory, maxMessages}
 use Rattle.anchors_cache.specs.Tables.{tablesBytes, anchorsOf, historyOf, anchorAt}
-use Rattle.anchors_cache.specs.Windows.{poppedCache, poppedTimes, trimmedCache, noCache, addedCache, addedTables, addedArea, usedBy}
+use Rattle.anchors_cache.specs.Windows.{poppedCache, poppedTimes, trimmedCache, noCache, addedCache, usedBy}
 
 -- ---- questions 1, 5 and 9
 -- one anchor as question 5 wants it, on the struct that the code holds

@@ -1,11 +1,10 @@
 -- The lent tables: 256 rows of 52 bytes of history, then 32 rows of 50 bytes of cached anchors. The messages stand in the lent message area, 33 bytes each.
-use Prim.Native.Nat.{ℕ, zero, suc, _+_, _-_, _*_, _/_, _≤_, _<_}
-use mathlib.Core.Bool.{Bool, true, false}
+use Prim.Native.Nat.{ℕ, _+_, _*_}
 use mathlib.Core.List.{List, [], _∷_, _++_, map}
-use lib.ListN.{take, drop, length}
-use Rattle.rows.specs.Rows.{pick, part, le, word, rows, stays, appended}
+use lib.ListN.{drop}
+use Rattle.rows.specs.Rows.{part, le, word, rows}
 use Rattle.anchors_cache.specs.declared.AnchorsCache.{AnchorsCache}
-use Rattle.anchors_cache.specs.Rules.{Info, Anchor, Cache, Row, withRow, maxAnchors, maxHistory}
+use Rattle.anchors_cache.specs.Rules.{Info, Anchor, Cache, Row, withRow}
 
 -- where the rows of the anchors begin, and where they end
 abbrev pub historyBytes : ℕ

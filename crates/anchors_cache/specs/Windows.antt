@@ -1,13 +1,13 @@
 -- What a pop, a trim and an add do to the window, the tables and the message area.
 use Prim.Native.Nat.{ℕ, zero, suc, _+_, _-_, _*_, _/_, _≤_, _<_}
 use mathlib.Core.Path.{_≡_}
-use mathlib.Core.Bool.{Bool, true, false}
-use mathlib.Core.List.{List, [], _∷_, _++_, map}
-use lib.Dec.{ltb, leb}
-use lib.ListN.{take, drop, length}
+use mathlib.Core.Bool.{true, false}
+use mathlib.Core.List.{List, [], _∷_}
+use lib.Dec.{ltb}
+use lib.ListN.{length}
 use Rattle.rows.specs.Rows.{pick, stays, appended}
 use Rattle.anchors_cache.specs.declared.AnchorsCache.{AnchorsCache}
-use Rattle.anchors_cache.specs.Rules.{Info, Row, dropStale, trimBack, trimHistory, total, maxAnchors, maxMessages, maxHistory}
+use Rattle.anchors_cache.specs.Rules.{Info, Row, dropStale, trimBack, trimHistory, total, maxAnchors, maxHistory}
 use Rattle.anchors_cache.specs.Tables.{historyBytes, anchorBytes, tablesBytes, anchorRow, infoRow, anchorsOf, historyOf}
 
 abbrev pub rowTime : Row → ℕ

@@ -3,6 +3,7 @@
 ghost use mathlib.Core.Path.{_≡_};
 ghost use Prim.Native.Nat.{ℕ, _+_, _*_, _/_, _<_, _≤_};
 ghost use lib.ListN.{length};
+ghost use Rattle.rows.specs.Rows.{pick};
 ghost use Rattle.anchors_cache.specs.Rules.{lastOf};
 ghost use Rattle.anchors_cache.specs.Tables.{anchors, infos};
 ghost use Rattle.anchors_cache.specs.Windows.{addedTables, addedArea};
@@ -382,8 +383,14 @@ pub fn commit(tables: &[u8], area: &[u8], t: AnchorsCacheTransaction) -> Done
             state: t,
         };
     }
-    let mut s = t;
-    s.committed = true;
+    let present = t.cache;
+    let opening = t.undo;
+    let s = AnchorsCacheTransaction {
+        cache: present,
+        undo: opening,
+        active: t.active,
+        committed: true,
+    };
     Done {
         number: 0,
         state: s,
@@ -401,13 +408,20 @@ pub fn rollback(tables: &[u8], area: &[u8], t: AnchorsCacheTransaction) -> Done
             state: t,
         };
     }
-    let c = t.undo;
+    let undo = t.undo;
     let mut s = t;
-    s.cache = c;
+    s.cache = undo;
     Done {
         number: 0,
         state: s,
     }
+}
+
+// What a close keeps.
+fn kept(committed: bool, present: AnchorsCache, opening: AnchorsCache) -> AnchorsCache
+    ensures { λ r. ⌜ r ≡ pick committed present opening ⌝ }
+{
+    if committed { present } else { opening }
 }
 
 // The Rust's drop: a rollback, unless the mark was ever set.
@@ -421,11 +435,11 @@ pub fn close(tables: &[u8], area: &[u8], t: AnchorsCacheTransaction) -> Done
             state: t,
         };
     }
+    let present = t.cache;
+    let opening = t.undo;
+    let c = kept(t.committed, present, opening);
     let mut s = t;
-    if !t.committed {
-        let c = t.undo;
-        s.cache = c;
-    }
+    s.cache = c;
     s.active = false;
     Done {
         number: 0,

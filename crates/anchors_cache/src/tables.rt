@@ -83,18 +83,18 @@ pub(crate) fn fresh_len(tables: &[u8], first: usize, len: usize, ct: ChainTime) 
     ensures { λ r. ⌜ r ≡ length (dropStale (ct .0) (infos first len (now (tables .entry)))) ⌝ }
 {
     let mut at = first;
-    let mut left = len;
-    while 1 < left {
+    let mut fresh = len;
+    while 1 < fresh {
         let e = info_at(tables, at);
         let time = e.ct;
         if time.0 < ct.0 {
             at += 1;
-            left -= 1;
+            fresh -= 1;
         } else {
-            return left;
+            return fresh;
         }
     }
-    left
+    fresh
 }
 
 // How many cached anchors stay where those above ct go from the back.
@@ -105,8 +105,8 @@ pub(crate) fn kept_len(tables: &[u8], first: usize, len: usize, ct: ChainTime) -
     let mut left = len;
     while 0 < left {
         let a = anchor_at(tables, first + (left - 1), 0);
-        let time = a.chain_time;
-        if ct.0 < time.0 {
+        let last = a.chain_time;
+        if ct.0 < last.0 {
             left -= 1;
         } else {
             return left;

@@ -1,20 +1,10 @@
-use Rattle.anchors_cache.specs.Calls.{addCall, answer, addNumber}
+use Rattle.anchors_cache.specs.Calls.{addCall, answer}
 use Rattle.anchors_cache.proofs.Asked.{on-not, add-asks}
-use Prim.Native.Nat.{ℕ, suc, zero, _+_, _-_, _*_, _/_, _%_, _^_, _≤_, _<_}
-use mathlib.Core.Path.{_≡_, refl, sym, ap, _∙_}
-use mathlib.Core.Bool.{Bool, true, false}
-use mathlib.Core.List.{List, [], _∷_, _++_}
-use mathlib.Core.Logic.{⊎-elim}
-use native.Mathlib.Omega.{arith}
-use lib.ListN.{length, getD, take, drop, set, length-set}
-use borrow.Author.Tests.{lt-ltb, le-ltb, le-leb, lt-leb, eq-eqb, ne-eqb, not-true, not-false}
+use Prim.Native.Nat.{_-_}
+use mathlib.Core.Path.{sym, _∙_}
 use borrow.Author.Needs.{needs}
 use Rattle.anchors_cache.proofs.add.Statement.{statement}
 use Rattle.anchors_cache.proofs.add.Tie as tie
-use Rattle.anchors_cache.proofs.add.Reads as reads
-use Rattle.anchors_cache.proofs.add.Lts as lts
-use Rattle.anchors_cache.proofs.questions.add_number.Reads as add-number-reads
-use Rattle.anchors_cache.proofs.windows.added_cache.Reads as added-cache-reads
 
 add-number-requires : tie.Need-add-number-requires
 add-number-requires c κs = search needs

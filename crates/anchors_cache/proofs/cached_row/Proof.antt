@@ -2,21 +2,12 @@ use borrow.Author.Tests.{ltb-true, leb-true}
 use lib.Dec.{ltb, leb}
 use Rattle.rows.proofs.Laws.{and-true}
 use Rattle.anchors_cache.specs.Calls.{rowAt}
-use Prim.Native.Nat.{ℕ, suc, zero, _+_, _-_, _*_, _/_, _%_, _^_, _≤_, _<_}
-use mathlib.Core.Path.{_≡_, refl, sym, ap, _∙_}
-use mathlib.Core.Bool.{Bool, true, false}
-use mathlib.Core.List.{List, [], _∷_, _++_}
-use mathlib.Core.Logic.{⊎-elim}
-use native.Mathlib.Omega.{arith}
-use lib.ListN.{length, getD, take, drop, set, length-set}
-use borrow.Author.Tests.{lt-ltb, le-ltb, le-leb, lt-leb, eq-eqb, ne-eqb, not-true, not-false}
+use Prim.Native.Nat.{_-_}
+use mathlib.Core.Path.{sym, _∙_}
+use lib.ListN.{length}
 use borrow.Author.Needs.{needs}
 use Rattle.anchors_cache.proofs.cached_row.Statement.{statement}
 use Rattle.anchors_cache.proofs.cached_row.Tie as tie
-use Rattle.anchors_cache.proofs.cached_row.Reads as reads
-use Rattle.anchors_cache.proofs.cached_row.Lts as lts
-use Rattle.anchors_cache.proofs.tables.anchor_at.Reads as anchor-at-reads
-use Rattle.anchors_cache.proofs.tables.has_row.Reads as has-row-reads
 
 has-row-requires : tie.Need-has-row-requires
 has-row-requires c κs = search needs

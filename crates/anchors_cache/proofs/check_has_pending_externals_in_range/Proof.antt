@@ -1,24 +1,14 @@
 use Rattle.anchors_cache.specs.declared.CachedAnchor.{CachedAnchor}
 use Rattle.anchors_cache.specs.Rules.{pendingUpTo}
-use Rattle.anchors_cache.specs.Tables.{anchors}
 use Rattle.anchors_cache.specs.Calls.{pendingInRangeCall, flagAnswer}
 use Rattle.anchors_cache.proofs.Laws.{anchors-none, anchors-cons}
 use Rattle.anchors_cache.proofs.Asked.{on-not, seen-parts, front-decides}
-use Prim.Native.Nat.{ℕ, suc, zero, _+_, _-_, _*_, _/_, _%_, _^_, _≤_, _<_}
-use mathlib.Core.Path.{_≡_, refl, sym, ap, _∙_}
-use mathlib.Core.Bool.{Bool, true, false}
-use mathlib.Core.List.{List, [], _∷_, _++_}
-use mathlib.Core.Logic.{⊎-elim}
+use Prim.Native.Nat.{_-_}
+use mathlib.Core.Path.{sym, ap, _∙_}
 use native.Mathlib.Omega.{arith}
-use lib.ListN.{length, getD, take, drop, set, length-set}
-use borrow.Author.Tests.{lt-ltb, le-ltb, le-leb, lt-leb, eq-eqb, ne-eqb, not-true, not-false}
 use borrow.Author.Needs.{needs}
 use Rattle.anchors_cache.proofs.check_has_pending_externals_in_range.Statement.{statement}
 use Rattle.anchors_cache.proofs.check_has_pending_externals_in_range.Tie as tie
-use Rattle.anchors_cache.proofs.check_has_pending_externals_in_range.Reads as reads
-use Rattle.anchors_cache.proofs.check_has_pending_externals_in_range.Lts as lts
-use Rattle.anchors_cache.proofs.questions.refusal_seen.Reads as refusal-seen-reads
-use Rattle.anchors_cache.proofs.tables.anchor_at.Reads as anchor-at-reads
 
 refusal-seen-requires : tie.Need-refusal-seen-requires
 refusal-seen-requires c κs = search needs

@@ -1,19 +1,10 @@
 use Rattle.anchors_cache.specs.Calls.{commitCall, answer}
 use Rattle.anchors_cache.proofs.Asked.{on-not}
-use Prim.Native.Nat.{ℕ, suc, zero, _+_, _-_, _*_, _/_, _%_, _^_, _≤_, _<_}
-use mathlib.Core.Path.{_≡_, refl, sym, ap, _∙_}
-use mathlib.Core.Bool.{Bool, true, false}
-use mathlib.Core.List.{List, [], _∷_, _++_}
-use mathlib.Core.Logic.{⊎-elim}
-use native.Mathlib.Omega.{arith}
-use lib.ListN.{length, getD, take, drop, set, length-set}
-use borrow.Author.Tests.{lt-ltb, le-ltb, le-leb, lt-leb, eq-eqb, ne-eqb, not-true, not-false}
+use Prim.Native.Nat.{_-_}
+use mathlib.Core.Path.{sym, _∙_}
 use borrow.Author.Needs.{needs}
 use Rattle.anchors_cache.proofs.commit.Statement.{statement}
 use Rattle.anchors_cache.proofs.commit.Tie as tie
-use Rattle.anchors_cache.proofs.commit.Reads as reads
-use Rattle.anchors_cache.proofs.commit.Lts as lts
-use Rattle.anchors_cache.proofs.questions.refusal_at.Reads as refusal-at-reads
 
 refusal-at-requires : tie.Need-refusal-at-requires
 refusal-at-requires c κs = search needs
@@ -24,7 +15,7 @@ returns c = rw (← c .before .refusal-at .ensures, on-not _ _ _ (c .if1 .taken)
 
 returns-2 : tie.Need-returns-2
 unfolding commitCall answer
-returns-2 c = rw (sym (c .before .refusal-at .ensures) ∙ c .if1 .left)
+returns-2 c = rw (sym (c .before .before .before .refusal-at .ensures) ∙ c .before .before .if1 .left)
 
 pub commit-spec : {M : Type 1} → statement M
 commit-spec = tie.close (tie.spec refusal-at-requires returns returns-2)

@@ -1,19 +1,9 @@
 use Rattle.anchors_cache.specs.Calls.{lastInfoCall, lastIdCall}
 use Rattle.anchors_cache.proofs.Answers.{id-none, id-some}
-use Prim.Native.Nat.{ℕ, suc, zero, _+_, _-_, _*_, _/_, _%_, _^_, _≤_, _<_}
-use mathlib.Core.Path.{_≡_, refl, sym, ap, _∙_}
-use mathlib.Core.Bool.{Bool, true, false}
-use mathlib.Core.List.{List, [], _∷_, _++_}
-use mathlib.Core.Logic.{⊎-elim}
-use native.Mathlib.Omega.{arith}
-use lib.ListN.{length, getD, take, drop, set, length-set}
-use borrow.Author.Tests.{lt-ltb, le-ltb, le-leb, lt-leb, eq-eqb, ne-eqb, not-true, not-false}
+use Prim.Native.Nat.{_-_}
 use borrow.Author.Needs.{needs}
 use Rattle.anchors_cache.proofs.get_last_imported_anchor_id_and_ct.Statement.{statement}
 use Rattle.anchors_cache.proofs.get_last_imported_anchor_id_and_ct.Tie as tie
-use Rattle.anchors_cache.proofs.get_last_imported_anchor_id_and_ct.Reads as reads
-use Rattle.anchors_cache.proofs.get_last_imported_anchor_id_and_ct.Lts as lts
-use Rattle.anchors_cache.proofs.last_imported_anchor_info.Reads as last-imported-anchor-info-reads
 
 last-imported-anchor-info-requires : tie.Need-last-imported-anchor-info-requires
 last-imported-anchor-info-requires c κs = search needs

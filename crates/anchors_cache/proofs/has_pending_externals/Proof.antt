@@ -1,19 +1,10 @@
 use Rattle.anchors_cache.specs.Calls.{pendingCall, flagAnswer}
 use Rattle.anchors_cache.proofs.Asked.{on-not}
-use Prim.Native.Nat.{ℕ, suc, zero, _+_, _-_, _*_, _/_, _%_, _^_, _≤_, _<_}
-use mathlib.Core.Path.{_≡_, refl, sym, ap, _∙_}
-use mathlib.Core.Bool.{Bool, true, false}
-use mathlib.Core.List.{List, [], _∷_, _++_}
-use mathlib.Core.Logic.{⊎-elim}
-use native.Mathlib.Omega.{arith}
-use lib.ListN.{length, getD, take, drop, set, length-set}
-use borrow.Author.Tests.{lt-ltb, le-ltb, le-leb, lt-leb, eq-eqb, ne-eqb, not-true, not-false}
+use Prim.Native.Nat.{_-_}
+use mathlib.Core.Path.{sym, _∙_}
 use borrow.Author.Needs.{needs}
 use Rattle.anchors_cache.proofs.has_pending_externals.Statement.{statement}
 use Rattle.anchors_cache.proofs.has_pending_externals.Tie as tie
-use Rattle.anchors_cache.proofs.has_pending_externals.Reads as reads
-use Rattle.anchors_cache.proofs.has_pending_externals.Lts as lts
-use Rattle.anchors_cache.proofs.questions.refusal_seen.Reads as refusal-seen-reads
 
 refusal-seen-requires : tie.Need-refusal-seen-requires
 refusal-seen-requires c κs = search needs

@@ -2,22 +2,12 @@ use Rattle.anchors_cache.specs.Tables.{historyOf}
 use Rattle.anchors_cache.specs.Calls.{infoAtCtCall, infoAnswer}
 use Rattle.anchors_cache.proofs.Laws.{history-kept-le, kept-history, at-ct}
 use Rattle.anchors_cache.proofs.Asked.{on-not, seen-parts}
-use Prim.Native.Nat.{ℕ, suc, zero, _+_, _-_, _*_, _/_, _%_, _^_, _≤_, _<_}
-use mathlib.Core.Path.{_≡_, refl, sym, ap, _∙_}
-use mathlib.Core.Bool.{Bool, true, false}
-use mathlib.Core.List.{List, [], _∷_, _++_}
-use mathlib.Core.Logic.{⊎-elim}
+use Prim.Native.Nat.{_-_}
+use mathlib.Core.Path.{sym, _∙_}
 use native.Mathlib.Omega.{arith}
-use lib.ListN.{length, getD, take, drop, set, length-set}
-use borrow.Author.Tests.{lt-ltb, le-ltb, le-leb, lt-leb, eq-eqb, ne-eqb, not-true, not-false}
 use borrow.Author.Needs.{needs}
 use Rattle.anchors_cache.proofs.last_imported_anchor_info_at_ct.Statement.{statement}
 use Rattle.anchors_cache.proofs.last_imported_anchor_info_at_ct.Tie as tie
-use Rattle.anchors_cache.proofs.last_imported_anchor_info_at_ct.Reads as reads
-use Rattle.anchors_cache.proofs.last_imported_anchor_info_at_ct.Lts as lts
-use Rattle.anchors_cache.proofs.questions.refusal_seen.Reads as refusal-seen-reads
-use Rattle.anchors_cache.proofs.shown_info.Reads as shown-info-reads
-use Rattle.anchors_cache.proofs.tables.history_kept_len.Reads as history-kept-len-reads
 
 refusal-seen-requires : tie.Need-refusal-seen-requires
 refusal-seen-requires c κs = search needs

@@ -4,22 +4,13 @@ use Rattle.anchors_cache.specs.Windows.{trimmedCache}
 use Rattle.anchors_cache.specs.Calls.{trimCall, trimAnswer, shownInfo}
 use Rattle.anchors_cache.proofs.Laws.{history-kept-le}
 use Rattle.anchors_cache.proofs.Asked.{on-not, refusal-parts}
-use Prim.Native.Nat.{ℕ, suc, zero, _+_, _-_, _*_, _/_, _%_, _^_, _≤_, _<_}
-use mathlib.Core.Path.{_≡_, refl, sym, ap, _∙_}
-use mathlib.Core.Bool.{Bool, true, false}
-use mathlib.Core.List.{List, [], _∷_, _++_}
-use mathlib.Core.Logic.{⊎-elim}
+use Prim.Native.Nat.{_-_}
+use mathlib.Core.Path.{sym, ap, _∙_}
 use native.Mathlib.Omega.{arith}
-use lib.ListN.{length, getD, take, drop, set, length-set}
-use borrow.Author.Tests.{lt-ltb, le-ltb, le-leb, lt-leb, eq-eqb, ne-eqb, not-true, not-false}
+use lib.ListN.{length}
 use borrow.Author.Needs.{needs}
 use Rattle.anchors_cache.proofs.remove_last_imported_above.Statement.{statement}
 use Rattle.anchors_cache.proofs.remove_last_imported_above.Tie as tie
-use Rattle.anchors_cache.proofs.remove_last_imported_above.Reads as reads
-use Rattle.anchors_cache.proofs.remove_last_imported_above.Lts as lts
-use Rattle.anchors_cache.proofs.questions.refusal_of.Reads as refusal-of-reads
-use Rattle.anchors_cache.proofs.shown_info.Reads as shown-info-reads
-use Rattle.anchors_cache.proofs.windows.trimmed_cache.Reads as trimmed-cache-reads
 
 refusal-of-requires : tie.Need-refusal-of-requires
 refusal-of-requires c κs = search needs

@@ -1,22 +1,12 @@
 use Rattle.anchors_cache.specs.Calls.{shownAnchor}
 use Rattle.rows.proofs.Laws.{part-part}
 use Rattle.anchors_cache.proofs.Laws.{anchors-none, anchors-cons, anchors-drop, anchors-take}
-use Prim.Native.Nat.{ℕ, suc, zero, _+_, _-_, _*_, _/_, _%_, _^_, _≤_, _<_}
-use mathlib.Core.Path.{_≡_, refl, sym, ap, _∙_}
-use mathlib.Core.Bool.{Bool, true, false}
-use mathlib.Core.List.{List, [], _∷_, _++_}
-use mathlib.Core.Logic.{⊎-elim}
+use Prim.Native.Nat.{_+_, _-_, _*_}
+use mathlib.Core.Path.{sym, _∙_}
 use native.Mathlib.Omega.{arith}
-use lib.ListN.{length, getD, take, drop, set, length-set}
-use borrow.Author.Tests.{lt-ltb, le-ltb, le-leb, lt-leb, eq-eqb, ne-eqb, not-true, not-false}
 use borrow.Author.Needs.{needs}
 use Rattle.anchors_cache.proofs.shown_anchor.Statement.{statement}
 use Rattle.anchors_cache.proofs.shown_anchor.Tie as tie
-use Rattle.anchors_cache.proofs.shown_anchor.Reads as reads
-use Rattle.anchors_cache.proofs.shown_anchor.Lts as lts
-use Rattle.anchors_cache.proofs.tables.anchor_at.Reads as anchor-at-reads
-use Rattle.anchors_cache.proofs.tables.author_at.Reads as author-at-reads
-use Rattle.anchors_cache.proofs.tables.total_count.Reads as total-count-reads
 
 returns : tie.Need-returns
 unfolding shownAnchor

@@ -1,22 +1,10 @@
 use Rattle.anchors_cache.proofs.Asked.{add-refused, add-six, add-seven, add-eight, add-nine, add-zero, refusal-parts}
-use Prim.Native.Nat.{ℕ, suc, zero, _+_, _-_, _*_, _/_, _%_, _^_, _≤_, _<_}
-use mathlib.Core.Path.{_≡_, refl, sym, ap, _∙_}
-use mathlib.Core.Bool.{Bool, true, false}
-use mathlib.Core.List.{List, [], _∷_, _++_}
-use mathlib.Core.Logic.{⊎-elim}
-use native.Mathlib.Omega.{arith}
-use lib.ListN.{length, getD, take, drop, set, length-set}
-use borrow.Author.Tests.{lt-ltb, le-ltb, le-leb, lt-leb, eq-eqb, ne-eqb, not-true, not-false}
+use Prim.Native.Nat.{_-_}
+use mathlib.Core.Path.{sym, _∙_}
+use borrow.Author.Tests.{not-true, not-false}
 use borrow.Author.Needs.{needs}
 use Rattle.anchors_cache.proofs.questions.add_number.Statement.{statement}
 use Rattle.anchors_cache.proofs.questions.add_number.Tie as tie
-use Rattle.anchors_cache.proofs.questions.add_number.Reads as reads
-use Rattle.anchors_cache.proofs.questions.add_number.Lts as lts
-use Rattle.anchors_cache.proofs.questions.has_room.Reads as has-room-reads
-use Rattle.anchors_cache.proofs.questions.is_above.Reads as is-above-reads
-use Rattle.anchors_cache.proofs.questions.refusal_of.Reads as refusal-of-reads
-use Rattle.anchors_cache.proofs.questions.right_size.Reads as right-size-reads
-use Rattle.anchors_cache.proofs.tables.total_count.Reads as total-count-reads
 
 refusal-of-requires : tie.Need-refusal-of-requires
 refusal-of-requires c κs = search needs

@@ -1,18 +1,10 @@
 use Rattle.anchors_cache.specs.Rules.{room}
-use Prim.Native.Nat.{ℕ, suc, zero, _+_, _-_, _*_, _/_, _%_, _^_, _≤_, _<_}
-use mathlib.Core.Path.{_≡_, refl, sym, ap, _∙_}
-use mathlib.Core.Bool.{Bool, true, false}
-use mathlib.Core.List.{List, [], _∷_, _++_}
-use mathlib.Core.Logic.{⊎-elim}
+use Prim.Native.Nat.{_-_}
 use native.Mathlib.Omega.{arith}
-use lib.ListN.{length, getD, take, drop, set, length-set}
-use borrow.Author.Tests.{lt-ltb, le-ltb, le-leb, lt-leb, eq-eqb, ne-eqb, not-true, not-false}
+use borrow.Author.Tests.{lt-ltb, le-ltb}
 use borrow.Author.Needs.{needs}
 use Rattle.anchors_cache.proofs.questions.has_room.Statement.{statement}
 use Rattle.anchors_cache.proofs.questions.has_room.Tie as tie
-use Rattle.anchors_cache.proofs.questions.has_room.Reads as reads
-use Rattle.anchors_cache.proofs.questions.has_room.Lts as lts
-use Rattle.rows.proofs.sum_within.Reads as sum-within-reads
 
 returns : tie.Need-returns
 unfolding room

@@ -1,20 +1,12 @@
 use Rattle.anchors_cache.specs.declared.CachedAnchor.{CachedAnchor}
 use Rattle.anchors_cache.specs.Rules.{lastOf}
 use Rattle.anchors_cache.proofs.Laws.{anchors-none, last-anchor}
-use Prim.Native.Nat.{ℕ, suc, zero, _+_, _-_, _*_, _/_, _%_, _^_, _≤_, _<_}
-use mathlib.Core.Path.{_≡_, refl, sym, ap, _∙_}
-use mathlib.Core.Bool.{Bool, true, false}
-use mathlib.Core.List.{List, [], _∷_, _++_}
-use mathlib.Core.Logic.{⊎-elim}
+use Prim.Native.Nat.{_-_}
+use mathlib.Core.Path.{ap}
 use native.Mathlib.Omega.{arith}
-use lib.ListN.{length, getD, take, drop, set, length-set}
-use borrow.Author.Tests.{lt-ltb, le-ltb, le-leb, lt-leb, eq-eqb, ne-eqb, not-true, not-false}
 use borrow.Author.Needs.{needs}
 use Rattle.anchors_cache.proofs.questions.is_above.Statement.{statement}
 use Rattle.anchors_cache.proofs.questions.is_above.Tie as tie
-use Rattle.anchors_cache.proofs.questions.is_above.Reads as reads
-use Rattle.anchors_cache.proofs.questions.is_above.Lts as lts
-use Rattle.anchors_cache.proofs.tables.anchor_at.Reads as anchor-at-reads
 
 returns : tie.Need-returns
 unfolding lastOf

@@ -1,16 +1,9 @@
-use Prim.Native.Nat.{ℕ, suc, zero, _+_, _-_, _*_, _/_, _%_, _^_, _≤_, _<_}
-use mathlib.Core.Path.{_≡_, refl, sym, ap, _∙_}
-use mathlib.Core.Bool.{Bool, true, false}
-use mathlib.Core.List.{List, [], _∷_, _++_}
-use mathlib.Core.Logic.{⊎-elim}
+use Prim.Native.Nat.{_-_}
 use native.Mathlib.Omega.{arith}
-use lib.ListN.{length, getD, take, drop, set, length-set}
-use borrow.Author.Tests.{lt-ltb, le-ltb, le-leb, lt-leb, eq-eqb, ne-eqb, not-true, not-false}
+use borrow.Author.Tests.{lt-ltb, le-ltb, le-leb, lt-leb}
 use borrow.Author.Needs.{needs}
 use Rattle.anchors_cache.proofs.questions.is_sound.Statement.{statement}
 use Rattle.anchors_cache.proofs.questions.is_sound.Tie as tie
-use Rattle.anchors_cache.proofs.questions.is_sound.Reads as reads
-use Rattle.anchors_cache.proofs.questions.is_sound.Lts as lts
 
 cast-if1 : tie.Need-cast-if1
 cast-if1 c = search needs

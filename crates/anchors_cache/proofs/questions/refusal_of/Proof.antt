@@ -1,18 +1,11 @@
 use Rattle.anchors_cache.specs.Calls.{refusal}
-use Prim.Native.Nat.{ℕ, suc, zero, _+_, _-_, _*_, _/_, _%_, _^_, _≤_, _<_}
-use mathlib.Core.Path.{_≡_, refl, sym, ap, _∙_}
-use mathlib.Core.Bool.{Bool, true, false}
-use mathlib.Core.List.{List, [], _∷_, _++_}
-use mathlib.Core.Logic.{⊎-elim}
+use Prim.Native.Nat.{_-_}
+use mathlib.Core.Path.{sym, _∙_}
 use native.Mathlib.Omega.{arith}
-use lib.ListN.{length, getD, take, drop, set, length-set}
-use borrow.Author.Tests.{lt-ltb, le-ltb, le-leb, lt-leb, eq-eqb, ne-eqb, not-true, not-false}
+use borrow.Author.Tests.{le-leb, lt-leb}
 use borrow.Author.Needs.{needs}
 use Rattle.anchors_cache.proofs.questions.refusal_of.Statement.{statement}
 use Rattle.anchors_cache.proofs.questions.refusal_of.Tie as tie
-use Rattle.anchors_cache.proofs.questions.refusal_of.Reads as reads
-use Rattle.anchors_cache.proofs.questions.refusal_of.Lts as lts
-use Rattle.anchors_cache.proofs.questions.valid_state.Reads as valid-state-reads
 
 returns : tie.Need-returns
 unfolding refusal

@@ -1,17 +1,10 @@
 use Rattle.anchors_cache.specs.Rules.{rightSize}
-use Prim.Native.Nat.{ℕ, suc, zero, _+_, _-_, _*_, _/_, _%_, _^_, _≤_, _<_}
-use mathlib.Core.Path.{_≡_, refl, sym, ap, _∙_}
-use mathlib.Core.Bool.{Bool, true, false}
-use mathlib.Core.List.{List, [], _∷_, _++_}
-use mathlib.Core.Logic.{⊎-elim}
+use Prim.Native.Nat.{_-_, _*_, _/_}
 use native.Mathlib.Omega.{arith}
-use lib.ListN.{length, getD, take, drop, set, length-set}
-use borrow.Author.Tests.{lt-ltb, le-ltb, le-leb, lt-leb, eq-eqb, ne-eqb, not-true, not-false}
+use borrow.Author.Tests.{le-leb, lt-leb}
 use borrow.Author.Needs.{needs}
 use Rattle.anchors_cache.proofs.questions.right_size.Statement.{statement}
 use Rattle.anchors_cache.proofs.questions.right_size.Tie as tie
-use Rattle.anchors_cache.proofs.questions.right_size.Reads as reads
-use Rattle.anchors_cache.proofs.questions.right_size.Lts as lts
 
 mul-if1 : tie.Need-mul-if1
 mul-if1 c = search needs

@@ -4,20 +4,13 @@ use Rattle.anchors_cache.specs.Tables.{anchors, anchorAt}
 use Rattle.anchors_cache.specs.Calls.{soundTotal, soundAnchor}
 use Rattle.anchors_cache.proofs.Asked.{row-count, row-sound, sound-next, sound-stop, sound-end}
 use borrow.Author.Needs.{needs}
-use Prim.Native.Nat.{ℕ, suc, zero, _+_, _-_, _*_, _/_, _%_, _^_, _≤_, _<_}
+use Prim.Native.Nat.{_+_, _-_, _*_, _≤_}
 use mathlib.Core.Path.{_≡_, refl, sym, ap, _∙_}
-use mathlib.Core.Bool.{Bool, true, false}
-use mathlib.Core.List.{List, [], _∷_, _++_}
-use mathlib.Core.Logic.{⊎-elim}
+use mathlib.Core.Bool.{true, false}
 use native.Mathlib.Omega.{arith}
-use lib.ListN.{length, getD, take, drop, set, length-set}
-use borrow.Author.Tests.{lt-ltb, le-ltb, le-leb, lt-leb, eq-eqb, ne-eqb, not-true, not-false}
+use borrow.Author.Tests.{not-true, not-false}
 use Rattle.anchors_cache.proofs.questions.sound_total.Statement.{statement}
 use Rattle.anchors_cache.proofs.questions.sound_total.Tie as tie
-use Rattle.anchors_cache.proofs.questions.sound_total.Reads as reads
-use Rattle.anchors_cache.proofs.questions.sound_total.Lts as lts
-use Rattle.anchors_cache.proofs.questions.is_sound.Reads as is-sound-reads
-use Rattle.anchors_cache.proofs.tables.anchor_at.Reads as anchor-at-reads
 
 abbrev Inv-loop : tie.InvT-loop
 Inv-loop tables first len at₀ left₀ low₀ sum₀ at left low sum = (at + left ≤ 32) × (sum + 512 * left ≤ 16384) × (soundTotal low sum (anchors at left tables) ≡ soundTotal 0 0 (anchors first len tables))

@@ -1,22 +1,14 @@
 use Rattle.anchors_cache.specs.Calls.{validCache}
 use Rattle.anchors_cache.proofs.Asked.{all-sound, not-sound}
 use borrow.Author.Tests.{leb-true}
-use Prim.Native.Nat.{ℕ, suc, zero, _+_, _-_, _*_, _/_, _%_, _^_, _≤_, _<_}
-use mathlib.Core.Path.{_≡_, refl, sym, ap, _∙_}
-use mathlib.Core.Bool.{Bool, true, false}
-use mathlib.Core.List.{List, [], _∷_, _++_}
-use mathlib.Core.Logic.{⊎-elim}
+use Prim.Native.Nat.{_-_}
+use mathlib.Core.Path.{sym, _∙_}
 use native.Mathlib.Omega.{arith}
-use lib.ListN.{length, getD, take, drop, set, length-set}
-use borrow.Author.Tests.{lt-ltb, le-ltb, le-leb, lt-leb, eq-eqb, ne-eqb, not-true, not-false}
+use lib.ListN.{length}
+use borrow.Author.Tests.{le-leb, lt-leb, not-true, not-false}
 use borrow.Author.Needs.{needs}
 use Rattle.anchors_cache.proofs.questions.valid_cache.Statement.{statement}
 use Rattle.anchors_cache.proofs.questions.valid_cache.Tie as tie
-use Rattle.anchors_cache.proofs.questions.valid_cache.Reads as reads
-use Rattle.anchors_cache.proofs.questions.valid_cache.Lts as lts
-use Rattle.anchors_cache.proofs.questions.same_bool.Reads as same-bool-reads
-use Rattle.anchors_cache.proofs.questions.sound_total.Reads as sound-total-reads
-use Rattle.rows.proofs.sum_within.Reads as sum-within-reads
 
 returns : tie.Need-returns
 unfolding validCache

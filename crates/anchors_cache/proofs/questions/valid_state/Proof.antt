@@ -1,18 +1,10 @@
 use Rattle.anchors_cache.proofs.Asked.{valid-not, valid-open, valid-shut}
-use Prim.Native.Nat.{ℕ, suc, zero, _+_, _-_, _*_, _/_, _%_, _^_, _≤_, _<_}
-use mathlib.Core.Path.{_≡_, refl, sym, ap, _∙_}
-use mathlib.Core.Bool.{Bool, true, false}
-use mathlib.Core.List.{List, [], _∷_, _++_}
-use mathlib.Core.Logic.{⊎-elim}
-use native.Mathlib.Omega.{arith}
-use lib.ListN.{length, getD, take, drop, set, length-set}
-use borrow.Author.Tests.{lt-ltb, le-ltb, le-leb, lt-leb, eq-eqb, ne-eqb, not-true, not-false}
+use Prim.Native.Nat.{_-_}
+use mathlib.Core.Path.{sym, _∙_}
+use borrow.Author.Tests.{not-true, not-false}
 use borrow.Author.Needs.{needs}
 use Rattle.anchors_cache.proofs.questions.valid_state.Statement.{statement}
 use Rattle.anchors_cache.proofs.questions.valid_state.Tie as tie
-use Rattle.anchors_cache.proofs.questions.valid_state.Reads as reads
-use Rattle.anchors_cache.proofs.questions.valid_state.Lts as lts
-use Rattle.anchors_cache.proofs.questions.valid_cache.Reads as valid-cache-reads
 
 valid-cache-requires : tie.Need-valid-cache-requires
 valid-cache-requires c κs = search needs

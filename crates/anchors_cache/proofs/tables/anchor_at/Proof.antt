@@ -1,21 +1,10 @@
-use Rattle.rows.specs.Rows.{part, word, numAt}
 use Rattle.anchors_cache.proofs.Laws.{num-part, num-front}
-use Prim.Native.Nat.{ℕ, suc, zero, _+_, _-_, _*_, _/_, _%_, _^_, _≤_, _<_}
-use mathlib.Core.Path.{_≡_, refl, sym, ap, _∙_}
-use mathlib.Core.Bool.{Bool, true, false}
-use mathlib.Core.List.{List, [], _∷_, _++_}
-use mathlib.Core.Logic.{⊎-elim}
+use Prim.Native.Nat.{_+_, _-_, _*_}
+use mathlib.Core.Path.{_∙_}
 use native.Mathlib.Omega.{arith}
-use lib.ListN.{length, getD, take, drop, set, length-set}
-use borrow.Author.Tests.{lt-ltb, le-ltb, le-leb, lt-leb, eq-eqb, ne-eqb, not-true, not-false}
 use borrow.Author.Needs.{needs}
 use Rattle.anchors_cache.proofs.tables.anchor_at.Statement.{statement}
 use Rattle.anchors_cache.proofs.tables.anchor_at.Tie as tie
-use Rattle.anchors_cache.proofs.tables.anchor_at.Reads as reads
-use Rattle.anchors_cache.proofs.tables.anchor_at.Lts as lts
-use Rattle.rows.proofs.u16_at.Reads as u16-at-reads
-use Rattle.rows.proofs.u32_at.Reads as u32-at-reads
-use Rattle.rows.proofs.u64_at.Reads as u64-at-reads
 
 mul-at : tie.Need-mul-at
 mul-at c = search needs

@@ -1,21 +1,11 @@
 use Rattle.anchors_cache.proofs.Laws.{anchor-written}
 use Rattle.anchors_cache.specs.Calls.{rowFor}
-use Rattle.rows.proofs.Laws.{written-in, length-le}
-use Prim.Native.Nat.{ℕ, suc, zero, _+_, _-_, _*_, _/_, _%_, _^_, _≤_, _<_}
-use mathlib.Core.Path.{_≡_, refl, sym, ap, _∙_}
-use mathlib.Core.Bool.{Bool, true, false}
-use mathlib.Core.List.{List, [], _∷_, _++_}
-use mathlib.Core.Logic.{⊎-elim}
-use native.Mathlib.Omega.{arith}
-use lib.ListN.{length, getD, take, drop, set, length-set}
-use borrow.Author.Tests.{lt-ltb, le-ltb, le-leb, lt-leb, eq-eqb, ne-eqb, not-true, not-false}
+use Prim.Native.Nat.{_-_}
+use mathlib.Core.Path.{_≡_, refl}
+use lib.ListN.{length}
 use borrow.Author.Needs.{needs}
 use Rattle.anchors_cache.proofs.tables.anchor_row.Statement.{statement}
 use Rattle.anchors_cache.proofs.tables.anchor_row.Tie as tie
-use Rattle.anchors_cache.proofs.tables.anchor_row.Reads as reads
-use Rattle.anchors_cache.proofs.tables.anchor_row.Lts as lts
-use Rattle.rows.proofs.copy_in.Reads as copy-in-reads
-use Rattle.rows.proofs.put_le.Reads as put-le-reads
 
 slice-aggregate-put-le : tie.Need-slice-aggregate-put-le
 slice-aggregate-put-le c = search needs

@@ -1,18 +1,9 @@
 use Rattle.anchors_cache.proofs.Laws.{author-copied}
-use Prim.Native.Nat.{ℕ, suc, zero, _+_, _-_, _*_, _/_, _%_, _^_, _≤_, _<_}
-use mathlib.Core.Path.{_≡_, refl, sym, ap, _∙_}
-use mathlib.Core.Bool.{Bool, true, false}
-use mathlib.Core.List.{List, [], _∷_, _++_}
-use mathlib.Core.Logic.{⊎-elim}
-use native.Mathlib.Omega.{arith}
-use lib.ListN.{length, getD, take, drop, set, length-set}
-use borrow.Author.Tests.{lt-ltb, le-ltb, le-leb, lt-leb, eq-eqb, ne-eqb, not-true, not-false}
+use Prim.Native.Nat.{_-_}
+use mathlib.Core.Path.{_∙_}
 use borrow.Author.Needs.{needs}
 use Rattle.anchors_cache.proofs.tables.author_at.Statement.{statement}
 use Rattle.anchors_cache.proofs.tables.author_at.Tie as tie
-use Rattle.anchors_cache.proofs.tables.author_at.Reads as reads
-use Rattle.anchors_cache.proofs.tables.author_at.Lts as lts
-use Rattle.rows.proofs.copy_in.Reads as copy-in-reads
 
 slice-aggregate-copy-in : tie.Need-slice-aggregate-copy-in
 slice-aggregate-copy-in c = search needs

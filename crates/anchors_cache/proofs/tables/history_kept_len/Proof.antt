@@ -3,19 +3,12 @@ use Rattle.anchors_cache.specs.Rules.{trimHistory}
 use Rattle.anchors_cache.specs.Tables.{infos, infoAt}
 use Rattle.anchors_cache.proofs.Laws.{infos-length, history-more, history-stop, history-few}
 use borrow.Author.Needs.{needs}
-use Prim.Native.Nat.{ℕ, suc, zero, _+_, _-_, _*_, _/_, _%_, _^_, _≤_, _<_}
+use Prim.Native.Nat.{_+_, _-_, _≤_, _<_}
 use mathlib.Core.Path.{_≡_, refl, sym, ap, _∙_}
-use mathlib.Core.Bool.{Bool, true, false}
-use mathlib.Core.List.{List, [], _∷_, _++_}
-use mathlib.Core.Logic.{⊎-elim}
 use native.Mathlib.Omega.{arith}
-use lib.ListN.{length, getD, take, drop, set, length-set}
-use borrow.Author.Tests.{lt-ltb, le-ltb, le-leb, lt-leb, eq-eqb, ne-eqb, not-true, not-false}
+use lib.ListN.{length}
 use Rattle.anchors_cache.proofs.tables.history_kept_len.Statement.{statement}
 use Rattle.anchors_cache.proofs.tables.history_kept_len.Tie as tie
-use Rattle.anchors_cache.proofs.tables.history_kept_len.Reads as reads
-use Rattle.anchors_cache.proofs.tables.history_kept_len.Lts as lts
-use Rattle.anchors_cache.proofs.tables.info_at.Reads as info-at-reads
 
 abbrev Inv-loop : tie.InvT-loop
 Inv-loop tables first len ct left₀ left = (left ≤ len) × (trimHistory (ct .0) (infos first left tables) ≡ trimHistory (ct .0) (infos first len tables))

@@ -3,19 +3,11 @@ use Rattle.anchors_cache.specs.Rules.{total}
 use Rattle.anchors_cache.specs.Tables.{anchors}
 use Rattle.anchors_cache.proofs.Laws.{total-more, total-none}
 use borrow.Author.Needs.{needs}
-use Prim.Native.Nat.{ℕ, suc, zero, _+_, _-_, _*_, _/_, _%_, _^_, _≤_, _<_}
-use mathlib.Core.Path.{_≡_, refl, sym, ap, _∙_}
-use mathlib.Core.Bool.{Bool, true, false}
-use mathlib.Core.List.{List, [], _∷_, _++_}
-use mathlib.Core.Logic.{⊎-elim}
+use Prim.Native.Nat.{_+_, _-_, _*_, _≤_}
+use mathlib.Core.Path.{_≡_, ap}
 use native.Mathlib.Omega.{arith}
-use lib.ListN.{length, getD, take, drop, set, length-set}
-use borrow.Author.Tests.{lt-ltb, le-ltb, le-leb, lt-leb, eq-eqb, ne-eqb, not-true, not-false}
 use Rattle.anchors_cache.proofs.tables.total_count.Statement.{statement}
 use Rattle.anchors_cache.proofs.tables.total_count.Tie as tie
-use Rattle.anchors_cache.proofs.tables.total_count.Reads as reads
-use Rattle.anchors_cache.proofs.tables.total_count.Lts as lts
-use Rattle.anchors_cache.proofs.tables.anchor_at.Reads as anchor-at-reads
 
 abbrev Inv-loop : tie.InvT-loop
 Inv-loop tables first len at₀ left₀ sum₀ at left sum = (at + left ≤ 32) × (sum + total (anchors at left tables) ≡ total (anchors first len tables)) × (sum + 65535 * left ≤ 65535 * len)

@@ -1,23 +1,12 @@
 use Rattle.anchors_cache.specs.Calls.{rowFor}
 use Rattle.anchors_cache.proofs.Adding.{half-asks, add-none, add-some}
-use Prim.Native.Nat.{ℕ, suc, zero, _+_, _-_, _*_, _/_, _%_, _^_, _≤_, _<_}
-use mathlib.Core.Path.{_≡_, refl, sym, ap, _∙_}
-use mathlib.Core.Bool.{Bool, true, false}
-use mathlib.Core.List.{List, [], _∷_, _++_}
-use mathlib.Core.Logic.{⊎-elim}
+use Prim.Native.Nat.{_-_}
+use mathlib.Core.Path.{_≡_}
 use native.Mathlib.Omega.{arith}
-use lib.ListN.{length, getD, take, drop, set, length-set}
-use borrow.Author.Tests.{lt-ltb, le-ltb, le-leb, lt-leb, eq-eqb, ne-eqb, not-true, not-false}
+use lib.ListN.{length}
 use borrow.Author.Needs.{needs}
 use Rattle.anchors_cache.proofs.windows.added_cache.Statement.{statement}
 use Rattle.anchors_cache.proofs.windows.added_cache.Tie as tie
-use Rattle.anchors_cache.proofs.windows.added_cache.Reads as reads
-use Rattle.anchors_cache.proofs.windows.added_cache.Lts as lts
-use Rattle.anchors_cache.proofs.tables.anchor_row.Reads as anchor-row-reads
-use Rattle.anchors_cache.proofs.tables.info_row.Reads as info-row-reads
-use Rattle.anchors_cache.proofs.tables.total_count.Reads as total-count-reads
-use Rattle.anchors_cache.proofs.windows.in_cache.Reads as in-cache-reads
-use Rattle.anchors_cache.proofs.windows.in_history.Reads as in-history-reads
 
 total-count-requires : tie.Need-total-count-requires
 total-count-requires c κs = search needs

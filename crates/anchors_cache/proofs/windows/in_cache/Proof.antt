@@ -2,21 +2,13 @@ use Rattle.rows.specs.declared.Appended.{Appended}
 use Rattle.anchors_cache.specs.Windows.{inCache}
 use Rattle.anchors_cache.specs.Calls.{placedAt}
 use Rattle.anchors_cache.proofs.Laws.{placed-fits, append-fits}
-use Prim.Native.Nat.{ℕ, suc, zero, _+_, _-_, _*_, _/_, _%_, _^_, _≤_, _<_}
-use mathlib.Core.Path.{_≡_, refl, sym, ap, _∙_}
-use mathlib.Core.Bool.{Bool, true, false}
-use mathlib.Core.List.{List, [], _∷_, _++_}
-use mathlib.Core.Logic.{⊎-elim}
+use Prim.Native.Nat.{_-_, _*_}
+use mathlib.Core.Path.{_≡_, refl, ap, _∙_}
 use native.Mathlib.Omega.{arith}
-use lib.ListN.{length, getD, take, drop, set, length-set}
-use borrow.Author.Tests.{lt-ltb, le-ltb, le-leb, lt-leb, eq-eqb, ne-eqb, not-true, not-false}
+use lib.ListN.{length}
 use borrow.Author.Needs.{needs}
 use Rattle.anchors_cache.proofs.windows.in_cache.Statement.{statement}
 use Rattle.anchors_cache.proofs.windows.in_cache.Tie as tie
-use Rattle.anchors_cache.proofs.windows.in_cache.Reads as reads
-use Rattle.anchors_cache.proofs.windows.in_cache.Lts as lts
-use Rattle.anchors_cache.proofs.windows.placed.Reads as placed-reads
-use Rattle.rows.proofs.append.Reads as append-reads
 
 mul-append : tie.Need-mul-append
 mul-append c = search needs

@@ -1,19 +1,11 @@
 use Rattle.anchors_cache.specs.Windows.{Lies, poppedTimes}
 use Rattle.anchors_cache.proofs.Laws.{popped-lies, times-more, times-none, times-empty}
 use borrow.Author.Needs.{needs}
-use Prim.Native.Nat.{ℕ, suc, zero, _+_, _-_, _*_, _/_, _%_, _^_, _≤_, _<_}
-use mathlib.Core.Path.{_≡_, refl, sym, ap, _∙_}
-use mathlib.Core.Bool.{Bool, true, false}
-use mathlib.Core.List.{List, [], _∷_, _++_}
-use mathlib.Core.Logic.{⊎-elim}
+use Prim.Native.Nat.{_-_}
+use mathlib.Core.Path.{_≡_, refl, sym, _∙_}
 use native.Mathlib.Omega.{arith}
-use lib.ListN.{length, getD, take, drop, set, length-set}
-use borrow.Author.Tests.{lt-ltb, le-ltb, le-leb, lt-leb, eq-eqb, ne-eqb, not-true, not-false}
 use Rattle.anchors_cache.proofs.windows.popped_times.Statement.{statement}
 use Rattle.anchors_cache.proofs.windows.popped_times.Tie as tie
-use Rattle.anchors_cache.proofs.windows.popped_times.Reads as reads
-use Rattle.anchors_cache.proofs.windows.popped_times.Lts as lts
-use Rattle.anchors_cache.proofs.windows.popped_cache.Reads as popped-cache-reads
 
 abbrev Inv-loop : tie.InvT-loop
 Inv-loop tables count c₀ left₀ c left = (Lies tables c) × (poppedTimes left tables c ≡ poppedTimes count tables c₀)

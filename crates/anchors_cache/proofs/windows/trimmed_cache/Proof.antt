@@ -1,19 +1,9 @@
 use Rattle.anchors_cache.specs.Windows.{trimmedCache}
-use Prim.Native.Nat.{ℕ, suc, zero, _+_, _-_, _*_, _/_, _%_, _^_, _≤_, _<_}
-use mathlib.Core.Path.{_≡_, refl, sym, ap, _∙_}
-use mathlib.Core.Bool.{Bool, true, false}
-use mathlib.Core.List.{List, [], _∷_, _++_}
-use mathlib.Core.Logic.{⊎-elim}
-use native.Mathlib.Omega.{arith}
-use lib.ListN.{length, getD, take, drop, set, length-set}
-use borrow.Author.Tests.{lt-ltb, le-ltb, le-leb, lt-leb, eq-eqb, ne-eqb, not-true, not-false}
+use Prim.Native.Nat.{_-_}
+use borrow.Author.Tests.{lt-ltb, le-ltb}
 use borrow.Author.Needs.{needs}
 use Rattle.anchors_cache.proofs.windows.trimmed_cache.Statement.{statement}
 use Rattle.anchors_cache.proofs.windows.trimmed_cache.Tie as tie
-use Rattle.anchors_cache.proofs.windows.trimmed_cache.Reads as reads
-use Rattle.anchors_cache.proofs.windows.trimmed_cache.Lts as lts
-use Rattle.anchors_cache.proofs.tables.history_kept_len.Reads as history-kept-len-reads
-use Rattle.anchors_cache.proofs.tables.kept_len.Reads as kept-len-reads
 
 kept-len-requires : tie.Need-kept-len-requires
 kept-len-requires c κs = search needs

@@ -1,0 +1,5 @@
+pub mod Views
+pub mod Kept
+pub mod Claim
+pub mod Corollaries
+pub mod Free
