@@ -464,15 +464,16 @@ def one_range(r):
     """Sessions for `oracle -x` of one range's read and the cache's calls alone (0005 without 3 and 4; no 0112, 0113,
     0116): handed-in ranges, reader partitions and caches, both modes, edges of every offset and of the output."""
     shard_wc, depth, top, prefix = rand_shard(r)
+    shard_wc = r.choice([0, 0, 0, -1, shard_wc])
     wc = struct.unpack('<b', struct.pack('<i', shard_wc)[:1])[0]
     accounts = rand_accounts(r, depth, top)
     timeout = r.choice([0, 1, 60, 60, 0xFFFFFFFF])
     now = r.choice([0, 5, timeout * 1000, timeout * 1000 + 100, timeout * 1000 + 100, timeout * 1000 + 5000, 2**63, 2**64 - 1])
     pars = sorted(set([0] * (r.random() < 0.85) + r.sample(range(1, 8), r.choice([0, 1, 1, 2, 3]))) or {1})
-    wide = r.random() < 0.3
+    wide, low = r.random() < 0.3, r.random() < 0.25
     limits = [NONE] * 8
     for p in pars:
-        limits[p] = r.choice([0, 1, 1, 2, 2, 3, 3, 3]) if not wide else r.choice([3, 5, 9, 1024])
+        limits[p] = r.choice([3, 5, 9, 1024]) if wide else r.choice([0, 1, 2, 3]) if low else r.choice([1, 2, 2, 3, 3, 3])
         if r.random() < 0.02:
             limits[p] = NONE
     if r.random() < 0.1:
@@ -507,7 +508,7 @@ def one_range(r):
     def add(n):
         nonlocal nxt
         for _ in range(n):
-            k = r.choice([1, 2, 2, 3, 4, 6]) if not big else r.choice([1, 100, 511, 512, 513])
+            k = r.choice([1, 2, 2, 3, 4, 6]) if not big or sum(map(len, out)) > 70000 else r.choice([1, 100, 511, 512, 513])
             msgs = [(wc if r.random() < 0.9 else other_wc(r, wc), r.choice(accounts)) for _ in range(k)]
             ours = r.randint(1, k) if r.random() < 0.9 else r.choice([0, 0, 0, 0, 0, 0, k + 1])
             aid = nxt if r.random() < 0.99 or not sizes else max(sizes)
@@ -588,6 +589,8 @@ def one_range(r):
             out.append(do(OPEN))
             opened = True
         elif x < 0.45:
+            if r.random() < 0.5:
+                ranges()    # its buffers are emptied so
             out.append(one(r.choice(seqnos) if r.random() < 0.97 else r.randint(0, 9), r.randint(0, 1)))
             if opened and r.random() < 0.35:
                 out.append(do(ROLLBACK))

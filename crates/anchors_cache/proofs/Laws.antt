@@ -12,7 +12,7 @@ use lib.ListN.{length, take, drop, replicate, length-map, length-append}
 use lib.Seq.{drop-drop, sets, length-sets}
 use borrow.Author.Tests.{lt-ltb, le-ltb, leb-true, leb-false}
 use Rattle.rows.specs.Rows.{pick, part, le, word, rows, numAt, written, stays, appended, appendAnswer, appendedIfFits}
-use Rattle.rows.proofs.Laws.{rows-cons, rows-back, rows-length, rows-drop, rows-take, part-part, part-length, sets-append, length-le, sets-all, num-in, written-in, append-some, appended-some, fits-yes}
+use Rattle.rows.proofs.Laws.{rows-cons, rows-back, rows-length, rows-drop, rows-take, part-length, sets-append, length-le, sets-all, num-in, written-in, append-some, appended-some, fits-yes}
 use Rattle.rows.specs.declared.Appended.{Appended}
 use Rattle.rows.specs.declared.Appended.the-variants.{Behind, Moved}
 use Rattle.anchors_cache.specs.declared.AnchorsCache.{AnchorsCache}
@@ -359,12 +359,11 @@ module _ (ct : ℕ) where
       go (y ∷ m) = rw (last-some y m (pick (leb (x .time) ct) (some x) none), last-some y m (some x))
 
 -- ---- rows read: a number, or the author, of a row that lies in the table
-module _ (l : List ℕ) (at m : ℕ) (fits : at + m ≤ length l) where
-  pub num-part : (a k : ℕ) → a + k ≤ m → numAt k (at + a) l ≡ word (part a k (part at m l))
-  num-part a k p = num-in k (at + a) l (omega arith) ∙ ap word (sym (part-part l at m a k p))
-
-  pub num-front : (k : ℕ) → k ≤ m → numAt k at l ≡ word (part 0 k (part at m l))
-  num-front k p = ap (λ (n : ℕ). numAt k n l) (omega arith) ∙ num-part 0 k (omega arith)
+pub row-num : (l : List ℕ) (at w a k : ℕ) → at + w ≤ length l → a + k ≤ w → numAt k a (take (at + w - at) (drop at l)) ≡ word (part a k (part at w l))
+row-num l at w a k p q =
+    let e : at + w - at ≡ w = omega arith in
+    let n : length (part at w l) ≡ w = part-length l at w p in
+    rw e (num-in k a (part at w l) (omega arith))
 
 pub author-copied : (l : List ℕ) (at : ℕ) → at + 32 ≤ length l → written 0 (take (at + 32 - at) (drop at l)) (replicate 32 0) ≡ part at 32 l
 author-copied l at p =

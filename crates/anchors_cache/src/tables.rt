@@ -36,10 +36,11 @@ pub(crate) fn anchor_at(tables: &[u8], i: usize, place: usize) -> CachedAnchor
     ensures { λ r. ⌜ (r ≡ cachedAnchor place (anchorAt i (now (tables .entry)))) × (r .count < 65536) ⌝ }
 {
     let at = HISTORY_BYTES + 50 * i;
-    let id = rows::u32_at(tables, at);
-    let time = ChainTime(rows::u64_at(tables, at + 4));
-    let ours = rows::u32_at(tables, at + 44);
-    let count = rows::u16_at(tables, at + 48) as usize;
+    let row = &tables[at..at + 50];
+    let id = rows::u32_at(row, 0);
+    let time = ChainTime(rows::u64_at(row, 4));
+    let ours = rows::u32_at(row, 44);
+    let count = rows::u16_at(row, 48) as usize;
     CachedAnchor {
         id: id,
         chain_time: time,
@@ -55,10 +56,11 @@ pub(crate) fn info_at(tables: &[u8], i: usize) -> AnchorInfo
     ensures { λ r. ⌜ r ≡ anchorInfo (infoAt i (now (tables .entry))) ⌝ }
 {
     let at = 52 * i;
-    let id = rows::u32_at(tables, at);
-    let time = ChainTime(rows::u64_at(tables, at + 4));
-    let all = rows::u32_at(tables, at + 12);
-    let ours = rows::u32_at(tables, at + 16);
+    let row = &tables[at..at + 52];
+    let id = rows::u32_at(row, 0);
+    let time = ChainTime(rows::u64_at(row, 4));
+    let all = rows::u32_at(row, 12);
+    let ours = rows::u32_at(row, 16);
     AnchorInfo {
         id: id,
         ct: time,

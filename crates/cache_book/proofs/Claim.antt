@@ -265,3 +265,9 @@ the-book tables area t ks e =
     let p = steps tables area big ks (openCall (length area) tables t .state) b (opened tables area t z e) in
     let q = closed tables area big (performed tables area ks (openCall (length area) tables t .state)) (entered area ks b) (p .1) in
     (p .0, q .0, q .1)
+
+-- The tables are one list for the whole run: an add in it is refused, and its contract writes tables and area only on number 0.
+pub an-add-in-the-list-writes-nothing : {A : Type 0} (tables area : List ℕ) → areaBytes ≤ length area → (t : AnchorsCacheTransaction) (b : Book) → Stands tables area t b
+    → (id ours k : ℕ) (x y : A) → onZero (addNumber (length area) tables t id ours k) x y ≡ y
+an-add-in-the-list-writes-nothing tables area big t b s id ours k x y =
+    ap (λ (n : ℕ). onZero n x y) (add-number tables area big t b s id ours k) ∙ add-never id ours k (b .present) x y

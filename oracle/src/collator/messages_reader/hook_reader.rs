@@ -220,7 +220,9 @@ impl Kept {
             all_ranges_fully_read: self.all_ranges_fully_read,
         };
         let res = f(&mut reader);
-        self.all_ranges_fully_read = reader.all_ranges_fully_read;
+        let ExternalsReader { buffer_limits_by_partitions, all_ranges_fully_read, .. } = reader;
+        self.buffer_limits_by_partitions = buffer_limits_by_partitions;
+        self.all_ranges_fully_read = all_ranges_fully_read;
         res
     }
 

@@ -1,4 +1,4 @@
-use Rattle.anchors_cache.proofs.Laws.{num-part, num-front}
+use Rattle.anchors_cache.proofs.Laws.{row-num}
 use Prim.Native.Nat.{_-_, _*_}
 use mathlib.Core.Path.{_∙_}
 use native.Mathlib.Omega.{arith}
@@ -9,37 +9,40 @@ use Rattle.anchors_cache.proofs.tables.info_at.Tie as tie
 mul-at : tie.Need-mul-at
 mul-at c = search needs
 
+add-row : tie.Need-add-row
+add-row c = search needs
+
+sub-row : tie.Need-sub-row
+sub-row c = search needs
+
+part-row-start : tie.Need-part-row-start
+part-row-start c = search needs
+
+part-row-end : tie.Need-part-row-end
+part-row-end c = search needs
+
 u32-at-requires : tie.Need-u32-at-requires
 u32-at-requires c κs = search needs
-
-add-u64-at : tie.Need-add-u64-at
-add-u64-at c = search needs
 
 u64-at-requires : tie.Need-u64-at-requires
 u64-at-requires c κs = search needs
 
-add-u32-at : tie.Need-add-u32-at
-add-u32-at c = search needs
-
 u32-at-requires-2 : tie.Need-u32-at-requires-2
 u32-at-requires-2 c κs = search needs
-
-add-u32-at-2 : tie.Need-add-u32-at-2
-add-u32-at-2 c = search needs
 
 u32-at-requires-3 : tie.Need-u32-at-requires-3
 u32-at-requires-3 c κs = search needs
 
 returns : tie.Need-returns
 returns c =
-    let a = c .before .before .before .before .before .args in
+    let a = c .before .before .before .before .before .before .args in
     let l = a .tables .now in
     let at = 52 * a .i in
     rw (
-      c .before .before .before .u32-at .ensures ∙ num-front l at 52 (omega arith) 4 (omega arith),
-      c .before .before .u64-at .ensures ∙ num-part l at 52 (omega arith) 4 8 (omega arith),
-      c .before .u32-at2 .ensures ∙ num-part l at 52 (omega arith) 12 4 (omega arith),
-      c .u32-at3 .ensures ∙ num-part l at 52 (omega arith) 16 4 (omega arith),
+      c .before .before .before .u32-at .ensures ∙ row-num l at 52 0 4 (omega arith) (omega arith),
+      c .before .before .u64-at .ensures ∙ row-num l at 52 4 8 (omega arith) (omega arith),
+      c .before .u32-at2 .ensures ∙ row-num l at 52 12 4 (omega arith) (omega arith),
+      c .u32-at3 .ensures ∙ row-num l at 52 16 4 (omega arith) (omega arith),
     )
 
 pub info-at-spec : {M : Type 1} → statement M
@@ -47,11 +50,12 @@ info-at-spec =
     tie.close
     (tie.spec
     mul-at
+    add-row
+    sub-row
+    part-row-start
+    part-row-end
     u32-at-requires
-    add-u64-at
     u64-at-requires
-    add-u32-at
     u32-at-requires-2
-    add-u32-at-2
     u32-at-requires-3
     returns)

@@ -1,0 +1,116 @@
+-- The public call, put together from what its parts ensure.
+use Prim.Native.Nat.{ℕ, suc, zero, _-_, _*_, _≤_}
+use mathlib.Core.Path.{_≡_, refl, sym, ap, _∙_}
+use mathlib.Core.Bool.{Bool, _&&_}
+use mathlib.Core.List.{List, [], _∷_}
+use native.Mathlib.Omega.{arith}
+use native.Mathlib.Nat.{mul-div-le}
+use lib.Dec.{eqb}
+use lib.ListN.{length, getD, drop, replicate}
+use lib.Seq.{sets}
+use borrow.Author.Tests.{eq-eqb, ne-eqb}
+use Rattle.rows.specs.Rows.{pick}
+use Rattle.ext_types.specs.declared.Seconds.{Seconds}
+use Rattle.shard_ident.specs.declared.ShardIdent.{ShardIdent}
+use Rattle.messages_buffer.specs.declared.FillState.{FillState}
+use Rattle.messages_buffer.specs.Fullness.{rangeFull, firstNo}
+use Rattle.anchors_cache.specs.declared.AnchorsCacheTransaction.{AnchorsCacheTransaction}
+use Rattle.anchors_cache.specs.declared.Done.{Done}
+use Rattle.anchors_cache.specs.Rules.{total}
+use Rattle.anchors_cache.specs.Tables.{view, withMessages, anchorsOf}
+use Rattle.anchors_cache.specs.Windows.{poppedTimes}
+use Rattle.anchors_cache.specs.Calls.{answer, popsCall, refusal, withCache}
+use Rattle.anchors_cache.proofs.Asked.{refusal-parts}
+use Rattle.range_reader.specs.declared.Context.{Context}
+use Rattle.range_reader.specs.declared.RangeRead.{RangeRead}
+use Rattle.range_reader.specs.declared.ReadExternals.{ReadExternals}
+use Rattle.range_reader.specs.declared.ExternalsRangeReaderState.{ExternalsRangeReaderState}
+use Rattle.range_reader.specs.declared.ProcessedTo.{ProcessedTo}
+use Rattle.range_reader.specs.declared.ReadNextExternalsMode.{ReadNextExternalsMode}
+use Rattle.range_reader.specs.Rules.{Outcome, silent, anchorsRead}
+use Rattle.range_reader.specs.Ready.{RangeReady, readOrRefused}
+use Rattle.range_reader.specs.Calls.{askedNumber, askedState, contextOf, entryOf, refusedAnswer, doneAnswer, rangeRead, readCall}
+use Rattle.range_reader.proofs.Numbers.{first-no, first-yes, first-alone, passed}
+
+zeros : (n i k : ℕ) → getD (replicate n 0) i 0 ≤ k
+zeros zero i k = omega arith
+zeros (suc n) zero k = omega arith
+zeros (suc n) (suc i) k = zeros n i k
+
+pops-done : (tables area : List ℕ) (t : AnchorsCacheTransaction) (p : Done) (pops : ℕ) → refusal (length area) tables t ≡ 0 → p ≡ popsCall (length area) pops tables t → p .state ≡ withCache t (poppedTimes pops tables (t .cache))
+unfolding popsCall answer
+pops-done tables area t p pops z e = ap (λ (d : Done). d .state) e ∙ rw z
+
+module _ (tables area : List ℕ) (t : AnchorsCacheTransaction) (shard : ShardIdent) (routes limits : List ℕ) (range : ExternalsRangeReaderState) (a : FillState) (ae : a ≡ askedState tables area t shard routes limits range) where
+  asked-number : a .number ≡ askedNumber tables area t shard routes limits range
+  unfolding askedState
+  asked-number = ap (λ (s : FillState). s .number) ae
+
+  asked-full : a .number ≡ 0 → a .full ≡ rangeFull limits (range .«by_partitions»)
+  unfolding askedState
+  asked-full z =
+      ap (λ (s : FillState). s .full) ae
+      ∙ ap (λ (b : Bool). b && rangeFull limits (range .«by_partitions»)) (eq-eqb (askedNumber tables area t shard routes limits range) 0 (sym asked-number ∙ z))
+
+  module _ (processed : List ProcessedTo) (timeout : Seconds) (mode : ReadNextExternalsMode) (out : List ℕ) where
+    pub call-asked : (q : ReadExternals) → (a .number ≡ 0 → ⊥) → q ≡ refusedAnswer (a .number) range t → record { answer = q; out = out } ≡ readCall tables area t shard routes limits processed timeout mode range out
+    unfolding readCall
+    call-asked q h e =
+        let n = a .number in
+        let f : n ≡ askedNumber tables area t shard routes limits range = asked-number in
+        rw (e, sym f, first-no n _ h, ne-eqb n 0 h)
+
+    module _ (z : a .number ≡ 0) (x : Context) (begin : RangeRead) (xe : x ≡ contextOf shard limits processed timeout mode range (length out)) (be : begin ≡ entryOf range (a .full)) where
+      at-entry : begin ≡ entryOf range (rangeFull limits (range .«by_partitions»))
+      at-entry = be ∙ ap (entryOf range) (asked-full z)
+
+      pub call-ready : RangeReady tables area (t .cache) routes x begin out
+      call-ready =
+          let p = passed tables area t shard routes limits range (sym asked-number ∙ z) in
+          let c = refusal-parts (length area) tables t (p .cache-sound) in
+          let k = 1024 - total (anchorsOf tables (t .cache)) in
+          rw (xe, at-entry)
+          (record {
+            fixed = record { shard-sound = p .shard-sound; routes-sound = p .routes-sound; room = refl };
+            tall = c .tall;
+            window = c .in-anchors;
+            placed = omega (arith, c .in-area, mul-div-le (length area) 33);
+            few = record { few = c .few; within = record { read = λ i. zeros 8 i k; expired = λ i. zeros 8 i k; buffered = λ i. zeros 8 i k; full = refl } };
+            pops = refl;
+          })
+
+      module _ (r : RangeRead) (o : List ℕ)
+          (h : record { value = r; entries = o } ≡ readOrRefused out (begin .walk .buffers .used) (anchorsRead x routes (withMessages (drop (33 * t .cache .base) area) (anchorsOf tables (t .cache))) (silent begin))) where
+        whole : Outcome RangeRead
+        whole = rangeRead tables area t shard routes limits processed timeout mode range (length out)
+
+        both : record { value = r; entries = o } ≡ readOrRefused out 0 whole
+        unfolding whole rangeRead view
+        both = h ∙ rw (xe, at-entry)
+
+        state : r ≡ whole .value
+        unfolding readOrRefused
+        state = ap (λ (s : Outcome RangeRead). s .value) both
+
+        bytes : o ≡ pick (eqb (whole .value .walk .number) 0) (sets out 0 (whole .entries)) out
+        unfolding readOrRefused
+        bytes = ap (λ (s : Outcome RangeRead). s .entries) both
+
+        number : r .walk .number ≡ whole .value .walk .number
+        number = ap (λ (v : RangeRead). v .walk .number) state
+
+        last : firstNo (askedNumber tables area t shard routes limits range ∷ whole .value .walk .number ∷ []) ≡ r .walk .number
+        last = first-yes _ _ (sym asked-number ∙ z) ∙ (first-alone (whole .value .walk .number) ∙ sym number)
+
+        pub call-refused : (q : ReadExternals) → (r .walk .number ≡ 0 → ⊥) → q ≡ refusedAnswer (r .walk .number) range t → record { answer = q; out = o } ≡ readCall tables area t shard routes limits processed timeout mode range out
+        unfolding readCall whole
+        call-refused q n e =
+            let w : (whole .value .walk .number ≡ 0 → ⊥) = λ y. n (number ∙ y) in
+            let b : o ≡ out = bytes ∙ ap (λ (c : Bool). pick c (sets out 0 (whole .entries)) out) (ne-eqb (whole .value .walk .number) 0 w) in
+            rw (last, ne-eqb (r .walk .number) 0 n, e, b)
+
+        pub call-done : (p : Done) (q : ReadExternals) → r .walk .number ≡ 0 → p ≡ popsCall (length area) (r .pops) tables t → q ≡ doneAnswer range r (p .state) → record { answer = q; out = o } ≡ readCall tables area t shard routes limits processed timeout mode range out
+        unfolding readCall whole
+        call-done p q n pe e =
+            let b : o ≡ sets out 0 (whole .entries) = bytes ∙ ap (λ (c : Bool). pick c (sets out 0 (whole .entries)) out) (eq-eqb (whole .value .walk .number) 0 (sym number ∙ n)) in
+            rw (last, eq-eqb (r .walk .number) 0 n, e, b, pops-done tables area t p (r .pops) (passed tables area t shard routes limits range (sym asked-number ∙ z) .cache-sound) pe, state)

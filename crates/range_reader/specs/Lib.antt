@@ -1,0 +1,3 @@
+pub mod Rules
+pub mod Ready
+pub mod Calls

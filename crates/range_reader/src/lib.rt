@@ -1,0 +1,278 @@
+// One range's read of externals: document 01's six steps over the cached anchors.
+// A refused read answers the number and leaves transaction, range and every output byte as at entry.
+ghost use mathlib.Core.Path.{_≡_};
+ghost use Rattle.range_reader.specs.Calls.{readCall, contextOf, entryOf, refusedAnswer, doneAnswer};
+use anchors_cache::AnchorsCacheTransaction;
+use ext_types::ChainTime;
+use ext_types::ExternalKey;
+use ext_types::Seconds;
+use messages_buffer::ExternalsPartitionRangeReaderState;
+use shard_ident::ShardIdent;
+
+mod anchors;
+mod messages;
+mod questions;
+
+// Bytes of an output entry.
+pub const ENTRY_LEN: usize = 26;
+
+// A range; `current_position` is the place after the last message read, `to` the furthest place ever read to.
+pub struct ExternalsRangeReaderState {
+    pub seqno: u32,
+    pub from: ExternalKey,
+    pub to: ExternalKey,
+    pub current_position: ExternalKey,
+    pub chain_time: ChainTime,
+    pub fully_read: bool,
+    pub by_partitions: [ExternalsPartitionRangeReaderState; 8],
+}
+
+pub enum ReadNextExternalsMode {
+    ToTheEnd,
+    ToPreviuosReadTo,
+}
+
+// A partition's processed position, if it has one.
+pub struct ProcessedTo {
+    pub key: ExternalKey,
+    pub present: bool,
+}
+
+// The chain time of the last anchor looked at.
+pub enum LastChainTime {
+    Nothing,
+    Time(ChainTime),
+}
+
+// Messages of ours per partition.
+pub struct ReadCounts {
+    pub read: [u32; 8],
+    pub expired: [u32; 8],
+    pub buffered: [u32; 8],
+}
+
+pub struct ReadExternals {
+    pub number: u8,
+    pub last_chain_time: LastChainTime,
+    pub full: bool,
+    pub counts: ReadCounts,
+    pub range: ExternalsRangeReaderState,
+    pub state: AnchorsCacheTransaction,
+}
+
+// What a read fixes at entry; `room` is the length of the lent output.
+pub(crate) struct Context {
+    pub shard: ShardIdent,
+    pub seqno: u32,
+    pub chain_time: ChainTime,
+    pub limit: ChainTime,
+    pub mode: ReadNextExternalsMode,
+    pub position: ExternalKey,
+    pub saved_end: ExternalKey,
+    pub limits: [u16; 8],
+    pub processed: [ProcessedTo; 8],
+    pub room: usize,
+}
+
+// `key` is the id and offset of the anchor looked at; the position follows it only when a message is read or the anchor is expired.
+pub(crate) struct Place {
+    pub key: ExternalKey,
+    pub reached: bool,
+    pub position: ExternalKey,
+    pub to: ExternalKey,
+}
+
+// The range's buffers, whether one is full, and how many bytes of the output are used.
+pub(crate) struct Buffers {
+    pub full: bool,
+    pub used: usize,
+    pub by_partitions: [ExternalsPartitionRangeReaderState; 8],
+}
+
+// A partition's buffer, and whether it is full.
+pub(crate) struct Filled {
+    pub partition: ExternalsPartitionRangeReaderState,
+    pub full: bool,
+}
+
+pub(crate) struct Walk {
+    pub number: u8,
+    pub place: Place,
+    pub buffers: Buffers,
+    pub counts: ReadCounts,
+}
+
+pub(crate) struct RangeRead {
+    pub walk: Walk,
+    pub pops: usize,
+    pub fully_read: bool,
+    pub ended: bool,
+    pub last: LastChainTime,
+}
+
+// What becomes of a message of ours.
+pub(crate) enum Verdict {
+    Keep,
+    Buffer,
+    Refuse(u8),
+}
+
+fn context_of(
+    shard: ShardIdent,
+    limits: [u16; 8],
+    processed: [ProcessedTo; 8],
+    timeout: Seconds,
+    mode: ReadNextExternalsMode,
+    range: ExternalsRangeReaderState,
+    room: usize,
+) -> Context
+    ensures { λ r. ⌜ r ≡ contextOf shard limits processed timeout mode range room ⌝ }
+{
+    let time = range.chain_time;
+    let position = range.current_position;
+    let end = range.to;
+    Context {
+        shard: shard,
+        seqno: range.seqno,
+        chain_time: time,
+        limit: ext_types::to_millis(timeout),
+        mode: mode,
+        position: position,
+        saved_end: end,
+        limits: limits,
+        processed: processed,
+        room: room,
+    }
+}
+
+fn at_entry(range: ExternalsRangeReaderState, full: bool) -> RangeRead
+    ensures { λ r. ⌜ r ≡ entryOf range full ⌝ }
+{
+    let position = range.current_position;
+    let to = range.to;
+    let partitions = range.by_partitions;
+    let place = Place {
+        key: position,
+        reached: false,
+        position: position,
+        to: to,
+    };
+    let buffers = Buffers {
+        full: full,
+        used: 0,
+        by_partitions: partitions,
+    };
+    let zeros = [0u32; 8];
+    let counts = ReadCounts {
+        read: zeros,
+        expired: zeros,
+        buffered: zeros,
+    };
+    let walk = Walk {
+        number: 0,
+        place: place,
+        buffers: buffers,
+        counts: counts,
+    };
+    let last = LastChainTime::Nothing;
+    RangeRead {
+        walk: walk,
+        pops: 0,
+        fully_read: range.fully_read,
+        ended: false,
+        last: last,
+    }
+}
+
+fn refused_answer(
+    number: u8,
+    range: ExternalsRangeReaderState,
+    t: AnchorsCacheTransaction,
+) -> ReadExternals
+    ensures { λ r. ⌜ r ≡ refusedAnswer number range t ⌝ }
+{
+    let zeros = [0u32; 8];
+    let counts = ReadCounts {
+        read: zeros,
+        expired: zeros,
+        buffered: zeros,
+    };
+    let last = LastChainTime::Nothing;
+    ReadExternals {
+        number: number,
+        last_chain_time: last,
+        full: false,
+        counts: counts,
+        range: range,
+        state: t,
+    }
+}
+
+fn done_answer(
+    range: ExternalsRangeReaderState,
+    r: RangeRead,
+    t: AnchorsCacheTransaction,
+) -> ReadExternals
+    ensures { λ q. ⌜ q ≡ doneAnswer range r t ⌝ }
+{
+    let w = r.walk;
+    let place = w.place;
+    let buffers = w.buffers;
+    let counts = w.counts;
+    let last = r.last;
+    let from = range.from;
+    let to = place.to;
+    let position = place.position;
+    let time = range.chain_time;
+    let partitions = buffers.by_partitions;
+    let after = ExternalsRangeReaderState {
+        seqno: range.seqno,
+        from: from,
+        to: to,
+        current_position: position,
+        chain_time: time,
+        fully_read: r.fully_read,
+        by_partitions: partitions,
+    };
+    ReadExternals {
+        number: 0,
+        last_chain_time: last,
+        full: buffers.full,
+        counts: counts,
+        range: after,
+        state: t,
+    }
+}
+
+// One range's read. It runs twice: the first run writes nothing and decides the number, so that a refusal met half-way leaves the output as it is.
+pub fn read_externals_into_buffers(
+    tables: &[u8],
+    area: &[u8],
+    t: AnchorsCacheTransaction,
+    shard: ShardIdent,
+    routes: &[u8],
+    limits: [u16; 8],
+    processed: [ProcessedTo; 8],
+    timeout: Seconds,
+    mode: ReadNextExternalsMode,
+    range: ExternalsRangeReaderState,
+    out: &mut [u8],
+) -> ReadExternals
+    ensures { λ r. ⌜ record { answer = r; out = now (out .exit) } ≡ readCall (now (tables .entry)) (now (area .entry)) t shard (now (routes .entry)) limits processed timeout mode range (now (out .entry)) ⌝ }
+{
+    let asked = questions::asked(tables, area, t, shard, routes, limits, range);
+    if asked.number != 0 {
+        return refused_answer(asked.number, range, t);
+    }
+    let x = context_of(shard, limits, processed, timeout, mode, range, out.len());
+    let start = at_entry(range, asked.full);
+    let cache = t.cache;
+    let r = anchors::read_or_refuse(tables, area, cache, routes, x, start, &mut *out);
+    let w = r.walk;
+    if w.number != 0 {
+        return refused_answer(w.number, range, t);
+    }
+    let popped = anchors_cache::pop_fronts(tables, area, t, r.pops);
+    let state = popped.state;
+    done_answer(range, r, state)
+}
