@@ -32,7 +32,7 @@ use Rattle.range_reader.specs.Ready.{RangeReady, readOrRefused}
 use Rattle.range_reader.specs.Calls.{askedNumber, askedState, contextOf, entryOf, refusedAnswer, doneAnswer, rangeRead, readCall}
 use Rattle.range_reader.proofs.Numbers.{first-no, first-yes, first-alone, passed}
 
-zeros : (n i k : ℕ) → getD (replicate n 0) i 0 ≤ k
+pub zeros : (n i k : ℕ) → getD (replicate n 0) i 0 ≤ k
 zeros zero i k = omega arith
 zeros (suc n) zero k = omega arith
 zeros (suc n) (suc i) k = zeros n i k

@@ -132,7 +132,7 @@ after-used Keep x time p w = omega arith
 after-used Buffer x time p w = omega (arith, length-entry (x .seqno) p (w .place .key) time)
 after-used (Refuse n) x time p w = omega arith
 
-after-place : (v : Verdict) (x : Context) (time : ChainTime) (p : ℕ) (w : Walk) → after v x time p w .value .place ≡ w .place
+pub after-place : (v : Verdict) (x : Context) (time : ChainTime) (p : ℕ) (w : Walk) → after v x time p w .value .place ≡ w .place
 unfolding readOne bufferOne refusedWith
 after-place Keep x time p w = refl
 after-place Buffer x time p w = refl

@@ -19,8 +19,7 @@ use anchors_cache::CachedAnchor;
 use anchors_cache::FoundAnchor;
 use ext_types::ChainTime;
 use ext_types::ExternalKey;
-
-const MESSAGE_LEN: usize = 33;
+use router::MESSAGE_LEN;
 
 // The front of the `left` anchors from index `at` on.
 fn front_anchor(tables: &[u8], at: usize, left: usize, place: usize) -> FoundAnchor

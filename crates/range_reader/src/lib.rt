@@ -61,7 +61,7 @@ pub struct ReadExternals {
 }
 
 // What a read fixes at entry; `room` is the length of the lent output.
-pub(crate) struct Context {
+pub struct Context {
     pub shard: ShardIdent,
     pub seqno: u32,
     pub chain_time: ChainTime,
@@ -75,7 +75,7 @@ pub(crate) struct Context {
 }
 
 // `key` is the id and offset of the anchor looked at; the position follows it only when a message is read or the anchor is expired.
-pub(crate) struct Place {
+pub struct Place {
     pub key: ExternalKey,
     pub reached: bool,
     pub position: ExternalKey,
@@ -83,26 +83,26 @@ pub(crate) struct Place {
 }
 
 // The range's buffers, whether one is full, and how many bytes of the output are used.
-pub(crate) struct Buffers {
+pub struct Buffers {
     pub full: bool,
     pub used: usize,
     pub by_partitions: [ExternalsPartitionRangeReaderState; 8],
 }
 
 // A partition's buffer, and whether it is full.
-pub(crate) struct Filled {
+pub struct Filled {
     pub partition: ExternalsPartitionRangeReaderState,
     pub full: bool,
 }
 
-pub(crate) struct Walk {
+pub struct Walk {
     pub number: u8,
     pub place: Place,
     pub buffers: Buffers,
     pub counts: ReadCounts,
 }
 
-pub(crate) struct RangeRead {
+pub struct RangeRead {
     pub walk: Walk,
     pub pops: usize,
     pub fully_read: bool,
@@ -111,7 +111,7 @@ pub(crate) struct RangeRead {
 }
 
 // What becomes of a message of ours.
-pub(crate) enum Verdict {
+pub enum Verdict {
     Keep,
     Buffer,
     Refuse(u8),

@@ -26,13 +26,11 @@ use ext_types::ExternalKey;
 use ext_types::key_above;
 use ext_types::key_equal;
 use messages_buffer::ExternalsPartitionRangeReaderState;
+use router::MESSAGE_LEN;
+use router::ROUTE_LEN;
 use rows::Found;
 use shard_ident::Membership;
 use shard_ident::ShardIdent;
-
-const MESSAGE_LEN: usize = 33;
-
-const ROUTE_LEN: usize = 34;
 
 pub(crate) fn end_reached(key: ExternalKey, end: ExternalKey) -> bool
     ensures { λ r. ⌜ r ≡ endReached key end ⌝ }

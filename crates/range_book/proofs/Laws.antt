@@ -1,0 +1,210 @@
+-- What one range's read does and does not do, each law named as a sentence.
+use Prim.Native.Nat.{ℕ, _+_, _*_, _≤_, _<_}
+use mathlib.Core.Path.{_≡_, refl, ap, _∙_}
+use mathlib.Core.Bool.{Bool, true, false, not}
+use mathlib.Core.List.{List, [], _∷_}
+use mathlib.Core.Logic.{_⊎_, inl, inr}
+use native.Mathlib.Omega.{arith}
+use lib.Dec.{eqb, ltb}
+use lib.ListN.{length, getD, drop}
+use borrow.Author.Tests.{le-ltb, eqb-true}
+use Rattle.rows.specs.Rows.{pick}
+use Rattle.rows.proofs.Laws.{rows-length}
+use Rattle.ext_types.specs.declared.ChainTime.{ChainTime}
+use Rattle.ext_types.specs.declared.ExternalKey.{ExternalKey}
+use Rattle.ext_types.specs.declared.Seconds.{Seconds}
+use Rattle.ext_types.specs.Time.{expiredAt}
+use Rattle.shard_ident.specs.declared.ShardIdent.{ShardIdent}
+use Rattle.shard_ident.specs.Shard.{isOurs}
+use Rattle.router.specs.Router.{partitionOf}
+use Rattle.messages_buffer.specs.Fullness.{rangeFull, firstNo}
+use Rattle.anchors_cache.specs.declared.AnchorsCacheTransaction.{AnchorsCacheTransaction}
+use Rattle.anchors_cache.specs.Rules.{Anchor, Row, total}
+use Rattle.anchors_cache.specs.Tables.{view, withMessages, anchorsOf}
+use Rattle.anchors_cache.specs.Windows.{poppedTimes}
+use Rattle.anchors_cache.specs.Calls.{withCache}
+use Rattle.anchors_cache.proofs.Asked.{refusal-parts}
+use Rattle.range_reader.specs.declared.Context.{Context}
+use Rattle.range_reader.specs.declared.Place.{Place}
+use Rattle.range_reader.specs.declared.Walk.{Walk}
+use Rattle.range_reader.specs.declared.RangeRead.{RangeRead}
+use Rattle.range_reader.specs.declared.ReadCounts.{ReadCounts}
+use Rattle.range_reader.specs.declared.ReadExternals.{ReadExternals}
+use Rattle.range_reader.specs.declared.ExternalsRangeReaderState.{ExternalsRangeReaderState}
+use Rattle.range_reader.specs.declared.ProcessedTo.{ProcessedTo}
+use Rattle.range_reader.specs.declared.ReadNextExternalsMode.{ReadNextExternalsMode}
+use Rattle.range_reader.specs.Rules.{Outcome, silent, followed, advanced, stopped, refusedWith, verdictOn, ourRead, messageRead, messagesRead, popped, lookKey, looked, expired, isWhole, ends, finished, unread, walked, anchorRead, nextRead, anchorsRead}
+use Rattle.range_reader.specs.Ready.{Within}
+use Rattle.range_reader.specs.Calls.{askedNumber, contextOf, entryOf, refusedAnswer, doneResult, rangeRead, readCall}
+use Rattle.range_reader.proofs.Counts.{pick-both, after-place, within-up}
+use Rattle.range_reader.proofs.AnchorLaws.{anchor-kept}
+use Rattle.range_reader.proofs.Numbers.{first-zero, passed}
+use Rattle.range_reader.proofs.CallLaws.{zeros}
+
+-- ---- the cache
+module _ (tables area : List ℕ) (t : AnchorsCacheTransaction) (shard : ShardIdent) (routes limits : List ℕ) (processed : List ProcessedTo) (timeout : Seconds) (mode : ReadNextExternalsMode) (range : ExternalsRangeReaderState) (out : List ℕ) where
+  pub the-read-changes-the-cache-only-by-pops : (n : ℕ) × (readCall tables area t shard routes limits processed timeout mode range out .answer .state ≡ withCache t (poppedTimes n tables (t .cache)))
+  unfolding readCall poppedTimes
+  the-read-changes-the-cache-only-by-pops = go (eqb number 0)
+    where
+      s : Outcome RangeRead
+      s = rangeRead tables area t shard routes limits processed timeout mode range (length out)
+
+      number : ℕ
+      number = firstNo (askedNumber tables area t shard routes limits range ∷ s .value .walk .number ∷ [])
+
+      go : (b : Bool) → (n : ℕ) × (pick b (doneResult tables t range s out) (record { answer = refusedAnswer number range t; out = out }) .answer .state ≡ withCache t (poppedTimes n tables (t .cache)))
+      go true = (s .value .pops, refl)
+      go false = (0, refl)
+
+-- ---- positions
+module _ (x : Context) (routes : List ℕ) (id : ℕ) (time : ChainTime) (l : List (List ℕ)) (r : RangeRead) (i : x .position .«anchor_id» ≤ id) where
+  pub an-expired-anchor's-position-is-its-id-and-offset : expiredAt (x .«chain_time») time (x .limit) ≡ true → anchorRead x routes id time l r .value .walk .place .position ≡ lookKey x id
+  unfolding anchorRead expired looked
+  an-expired-anchor's-position-is-its-id-and-offset e = rw (le-ltb id (x .position .«anchor_id») i, e)
+
+-- no message was read and the place is as it was, or the position is that of the last message read
+unfoldable pub Moved : Place → Place → Type 0
+Moved p q = (q ≡ p) ⊎ ((q .position ≡ q .key) × (p .key .«msgs_offset» < q .key .«msgs_offset»))
+
+pub message-place : (x : Context) (routes : List ℕ) (time : ChainTime) (m : List ℕ) (w : Walk) → messageRead x routes time m w .value .place ≡ advanced x w .place
+unfolding messageRead ourRead
+message-place x routes time m w =
+    let P : Outcome Walk → Type 0 = λ s. s .value .place ≡ advanced x w .place in
+    let p = partitionOf routes m in
+    pick-both P (isOurs (x .shard) m) (ourRead x time p (advanced x w)) (silent (advanced x w)) (after-place (verdictOn x p (advanced x w)) x time p (advanced x w)) refl
+
+moved-on : (x : Context) (w : Walk) (p : Place) → Moved p (w .place) → Moved p (advanced x w .place)
+unfolding advanced Moved
+moved-on x w p (inl e) = inr (refl, omega (arith, ap (λ (q : Place). q .key .«msgs_offset») e))
+moved-on x w p (inr h) = inr (refl, omega (arith, h .1))
+
+walk-moved : (x : Context) (routes : List ℕ) (time : ChainTime) (l : List (List ℕ)) (p : Place) (s : Outcome Walk) → Moved p (s .value .place) → Moved p (messagesRead x routes time l s .value .place)
+unfolding messagesRead
+walk-moved x routes time [] p s h = h
+walk-moved x routes time (m ∷ l) p s h =
+    let t = messageRead x routes time m (s .value) in
+    let P : Outcome Walk → Type 0 = λ q. Moved p (q .value .place) in
+    let g : Moved p (t .value .place) = rw (message-place x routes time m (s .value)) (moved-on x (s .value) p h) in
+    pick-both P (stopped x (s .value)) s (messagesRead x routes time l (followed s t)) h (walk-moved x routes time l p (followed s t) g)
+
+refused-place : (n : ℕ) (w : Walk) → refusedWith n w .place ≡ w .place
+unfolding refusedWith
+refused-place n w = refl
+
+pub finished-place : (x : Context) (time : ChainTime) (count : ℕ) (w : Walk) (r : RangeRead) → finished x time count w r .walk .place ≡ w .place
+unfolding finished
+finished-place x time count w r =
+    let P : RangeRead → Type 0 = λ q. q .walk .place ≡ w .place in
+    pick-both P (not (eqb (w .number) 0)) _ _ refl
+    (pick-both P (ends (x .mode) (w .place .reached)) _ _ refl (pick-both P (w .buffers .full) _ _ refl (pick-both P (isWhole w count) _ _ refl (refused-place 11 w))))
+
+looked-position : (x : Context) (id : ℕ) (w : Walk) → looked x id w .place .position ≡ w .place .position
+unfolding looked
+looked-position x id w = refl
+
+looked-key : (x : Context) (id : ℕ) (w : Walk) → looked x id w .place .key ≡ lookKey x id
+unfolding looked
+looked-key x id w = refl
+
+module _ (x : Context) (routes : List ℕ) (id : ℕ) (time : ChainTime) (l : List (List ℕ)) (r : RangeRead) where
+  -- a pop of step 2 leaves the whole place; else an anchor that is not expired moves the position only with a message read
+  pub outside-step-4-the-position-moves-only-with-a-message-read : expiredAt (x .«chain_time») time (x .limit) ≡ false
+      → (anchorRead x routes id time l r .value .walk .place .position ≡ r .walk .place .position)
+      ⊎ ((anchorRead x routes id time l r .value .walk .place .position ≡ anchorRead x routes id time l r .value .walk .place .key) × (lookKey x id .«msgs_offset» < anchorRead x routes id time l r .value .walk .place .key .«msgs_offset»))
+  unfolding anchorRead Moved
+  outside-step-4-the-position-moves-only-with-a-message-read e =
+      let w = looked x id (r .walk) in
+      let s = messagesRead x routes time (unread w l) (silent w) in
+      let P : Outcome RangeRead → Type 0 = λ q. (q .value .walk .place .position ≡ r .walk .place .position) ⊎ ((q .value .walk .place .position ≡ q .value .walk .place .key) × (lookKey x id .«msgs_offset» < q .value .walk .place .key .«msgs_offset»)) in
+      rw e (pick-both P (ltb id (x .position .«anchor_id»)) (silent (popped r)) (walked x time (length l) s r) (inl refl) (seen (finished x time (length l) (s .value) r .walk .place) (finished-place x time (length l) (s .value) r) (walk-moved x routes time (unread w l) (w .place) (silent w) (inl refl))))
+    where
+      at-place : (p : Place) → Moved (looked x id (r .walk) .place) p → (p .position ≡ r .walk .place .position) ⊎ ((p .position ≡ p .key) × (lookKey x id .«msgs_offset» < p .key .«msgs_offset»))
+      at-place p (inl e) = inl (ap (λ (q : Place). q .position) e ∙ looked-position x id (r .walk))
+      at-place p (inr h) = inr (h .0, omega (arith, h .1, ap (λ (k : ExternalKey). k .«msgs_offset») (looked-key x id (r .walk))))
+
+      seen : (p : Place) → p ≡ messagesRead x routes time (unread (looked x id (r .walk)) l) (silent (looked x id (r .walk))) .value .place → Moved (looked x id (r .walk) .place) (messagesRead x routes time (unread (looked x id (r .walk)) l) (silent (looked x id (r .walk))) .value .place)
+          → (p .position ≡ r .walk .place .position) ⊎ ((p .position ≡ p .key) × (lookKey x id .«msgs_offset» < p .key .«msgs_offset»))
+      seen p f h = at-place p (rw f h)
+
+-- ---- counts
+-- how many messages some anchors have
+unfoldable pub messagesIn : List Anchor → ℕ
+messagesIn [] = 0
+messagesIn (a ∷ l) = length (a .messages) + messagesIn l
+
+pub anchors-within : (x : Context) (routes : List ℕ) (l : List Anchor) (k : ℕ) (s : Outcome RangeRead) → Within x k (s .value .walk) → Within x (k + messagesIn l) (anchorsRead x routes l s .value .walk)
+unfolding anchorsRead messagesIn
+anchors-within x routes [] k s h = let e : k + 0 ≡ k = omega arith in rw e h
+anchors-within x routes (a ∷ l) k s h =
+    let t = nextRead x routes a s in
+    let P : Outcome RangeRead → Type 0 = λ q. Within x (k + (length (a .messages) + messagesIn l)) (q .value .walk) in
+    let g = anchor-kept x routes (a .id) (record { 0 = a .time }) (a .messages) k (s .value) h .within in
+    let e : k + length (a .messages) + messagesIn l ≡ k + (length (a .messages) + messagesIn l) = omega arith in
+    pick-both P (t .value .ended) t (anchorsRead x routes l t) (within-more x (k + length (a .messages)) (k + (length (a .messages) + messagesIn l)) (t .value .walk) (omega arith) g) (rw e at (anchors-within x routes l (k + length (a .messages)) t g))
+  where
+    within-more : (x : Context) (k m : ℕ) (w : Walk) → k ≤ m → Within x k w → Within x m w
+    within-more x k m w a h = within-up x k w h m a
+
+total-messages : (bytes : List ℕ) (l : List Row) → messagesIn (withMessages bytes l) ≡ total l
+unfolding withMessages total messagesIn
+total-messages bytes [] = refl
+total-messages bytes (a ∷ l) = rw (rows-length 33 (a .count) bytes, total-messages (drop (33 * a .count) bytes) l)
+
+-- every count is at most k
+pub record AtMost (k : ℕ) (c : ReadCounts) : Type 0 where
+  pub read : (i : ℕ) → getD (c .read) i 0 ≤ k
+  pub expired : (i : ℕ) → getD (c .expired) i 0 ≤ k
+  pub buffered : (i : ℕ) → getD (c .buffered) i 0 ≤ k
+
+module _ (tables area : List ℕ) (t : AnchorsCacheTransaction) (shard : ShardIdent) (routes limits : List ℕ) (processed : List ProcessedTo) (timeout : Seconds) (mode : ReadNextExternalsMode) (range : ExternalsRangeReaderState) where
+  within-cap : (room : ℕ) → askedNumber tables area t shard routes limits range ≡ 0 → AtMost 1024 (rangeRead tables area t shard routes limits processed timeout mode range room .value .walk .counts)
+  unfolding rangeRead view
+  within-cap room z =
+      let x = contextOf shard limits processed timeout mode range room in
+      let c = refusal-parts (length area) tables t (passed tables area t shard routes limits range z .cache-sound) in
+      let l = withMessages (drop (33 * t .cache .base) area) (anchorsOf tables (t .cache)) in
+      let r = entryOf range (rangeFull limits (range .«by_partitions»)) in
+      let n : messagesIn l ≡ total (anchorsOf tables (t .cache)) = total-messages (drop (33 * t .cache .base) area) (anchorsOf tables (t .cache)) in
+      let g = anchors-within x routes l 0 (silent r) (record { read = λ i. zeros 8 i 0; expired = λ i. zeros 8 i 0; buffered = λ i. zeros 8 i 0; full = refl }) in
+      record { read = λ i. omega (arith, g .read i, n, c .few); expired = λ i. omega (arith, g .expired i, n, c .few); buffered = λ i. omega (arith, g .buffered i, n, c .few) }
+
+  pub every-count-is-at-most-1024 : (out : List ℕ) → AtMost 1024 (readCall tables area t shard routes limits processed timeout mode range out .answer .counts)
+  unfolding readCall
+  every-count-is-at-most-1024 out = go (eqb number 0) refl
+    where
+      s : Outcome RangeRead
+      s = rangeRead tables area t shard routes limits processed timeout mode range (length out)
+
+      number : ℕ
+      number = firstNo (askedNumber tables area t shard routes limits range ∷ s .value .walk .number ∷ [])
+
+      go : (b : Bool) → eqb number 0 ≡ b → AtMost 1024 (pick b (doneResult tables t range s out) (record { answer = refusedAnswer number range t; out = out }) .answer .counts)
+      go true e = within-cap (length out) (first-zero _ _ (eqb-true number 0 e) .0)
+      go false e = record { read = λ i. zeros 8 i 1024; expired = λ i. zeros 8 i 1024; buffered = λ i. zeros 8 i 1024 }
+
+-- ---- free bytes
+-- an answer but for the transaction
+abbrev pub besideState : AnchorsCacheTransaction → ReadExternals → ReadExternals
+besideState t a = record { number = a .number; «last_chain_time» = a .«last_chain_time»; full = a .full; counts = a .counts; range = a .range; state = t }
+
+module _ (tables tables' area area' : List ℕ) (t : AnchorsCacheTransaction) (shard : ShardIdent) (routes limits : List ℕ) (processed : List ProcessedTo) (timeout : Seconds) (mode : ReadNextExternalsMode) (range : ExternalsRangeReaderState)
+    (same : view tables area (t .cache) .anchors ≡ view tables' area' (t .cache) .anchors) where
+  pub the-six-steps-see-the-bytes-of-cached-anchors-only : (room : ℕ) → rangeRead tables area t shard routes limits processed timeout mode range room ≡ rangeRead tables' area' t shard routes limits processed timeout mode range room
+  unfolding rangeRead
+  the-six-steps-see-the-bytes-of-cached-anchors-only room = ap (λ (l : List Anchor). anchorsRead (contextOf shard limits processed timeout mode range room) routes l (silent (entryOf range (rangeFull limits (range .«by_partitions»))))) same
+
+  pub no-read-depends-on-free-bytes : (out : List ℕ) → askedNumber tables area t shard routes limits range ≡ askedNumber tables' area' t shard routes limits range
+      → (readCall tables area t shard routes limits processed timeout mode range out .out ≡ readCall tables' area' t shard routes limits processed timeout mode range out .out)
+      × (besideState t (readCall tables area t shard routes limits processed timeout mode range out .answer) ≡ besideState t (readCall tables' area' t shard routes limits processed timeout mode range out .answer))
+  unfolding readCall
+  no-read-depends-on-free-bytes out e =
+      let s = rangeRead tables' area' t shard routes limits processed timeout mode range (length out) in
+      let n = firstNo (askedNumber tables' area' t shard routes limits range ∷ s .value .walk .number ∷ []) in
+      rw (e, the-six-steps-see-the-bytes-of-cached-anchors-only (length out)) (beside s n (eqb n 0))
+    where
+      beside : (s : Outcome RangeRead) (n : ℕ) (b : Bool)
+          → (pick b (doneResult tables t range s out) (record { answer = refusedAnswer n range t; out = out }) .out ≡ pick b (doneResult tables' t range s out) (record { answer = refusedAnswer n range t; out = out }) .out)
+          × (besideState t (pick b (doneResult tables t range s out) (record { answer = refusedAnswer n range t; out = out }) .answer) ≡ besideState t (pick b (doneResult tables' t range s out) (record { answer = refusedAnswer n range t; out = out }) .answer))
+      beside s n true = (refl, refl)
+      beside s n false = (refl, refl)
