@@ -64,7 +64,7 @@ module _ (tables area tables′ area′ : List ℕ) (tall : length tables ≡ le
   popped-view = view-popped tables area c ∙ (ap popFront e ∙ (sym (view-popped tables′ area′ c) ∙ ap (view tables′ area′) (sym popped-same)))
 
 module _ (tables area tables′ area′ : List ℕ) (tall : length tables ≡ length tables′) where
-  times-same : (n : ℕ) (c : AnchorsCache) → view tables area c ≡ view tables′ area′ c → poppedTimes n tables c ≡ poppedTimes n tables′ c
+  pub times-same : (n : ℕ) (c : AnchorsCache) → view tables area c ≡ view tables′ area′ c → poppedTimes n tables c ≡ poppedTimes n tables′ c
   unfolding poppedTimes
   times-same zero c e = refl
   times-same (suc n) c e =

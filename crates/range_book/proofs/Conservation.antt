@@ -6,7 +6,7 @@ use mathlib.Core.List.{List, [], _∷_, _++_}
 use mathlib.Core.Logic.{_⊎_, inl, inr}
 use native.Mathlib.Omega.{arith}
 use lib.Dec.{eqb, ltb, leb}
-use lib.ListN.{length, getD, take, drop, length-set, length-drop}
+use lib.ListN.{length, getD, take, drop, replicate, length-set, length-drop}
 use lib.Seq.{getD-set-same, getD-set-other, take-all}
 use borrow.Author.Tests.{eqb-true, eqb-false, ne-eqb, eq-eqb}
 use Rattle.rows.specs.Rows.{pick}
@@ -37,7 +37,7 @@ use Rattle.range_reader.specs.declared.ExternalsRangeReaderState.{ExternalsRang
 use Rattle.range_reader.specs.declared.ReadNextExternalsMode.{ReadNextExternalsMode}
 use Rattle.range_reader.specs.declared.Verdict.{Verdict}
 use Rattle.range_reader.specs.declared.Verdict.the-variants.{Keep, Buffer, Refuse}
-use Rattle.range_reader.specs.Rules.{Outcome, silent, followed, nextKey, advanced, ends, stopped, judge, noProcessed, more, refusedWith, readOne, bufferOne, after, verdictOn, ourRead, messageRead, messagesRead, popped, offsetIn, looked, expiredOne, expiredOver, expired, isWhole, finished, unread, walked, anchorRead, nextRead, anchorsRead}
+use Rattle.range_reader.specs.Rules.{lookKey, Outcome, silent, followed, nextKey, advanced, ends, stopped, judge, noProcessed, more, refusedWith, readOne, bufferOne, after, verdictOn, ourRead, messageRead, messagesRead, popped, offsetIn, looked, expiredOne, expiredOver, expired, isWhole, finished, unread, walked, anchorRead, nextRead, anchorsRead}
 use Rattle.range_reader.specs.Calls.{askedNumber, contextOf, entryOf, refusedAnswer, doneResult, rangeRead, ReadResult, readCall}
 use Rattle.range_reader.proofs.Counts.{pick-both}
 use Rattle.range_reader.proofs.Numbers.{first-zero, first-alone, passed}
@@ -205,9 +205,19 @@ pub record Eight (c : ReadCounts) : Type 0 where
 abbrev pub unreadIn : Context → ℕ → List (List ℕ) → List (List ℕ)
 unreadIn x id l = pick (ltb id (x .position .«anchor_id»)) [] (drop (offsetIn (x .position) id) l)
 
+-- the buffered counts with messages of one anchor: nothing of an expired one, else those above the processed position
+abbrev pub withBuffered : Bool → Context → List ℕ → ℕ → List (List ℕ) → List ℕ → List ℕ
+withBuffered expired x routes id l c = pick expired c (bufferedOver x routes (lookKey x id) l c)
+
+none-buffered : (expired : Bool) (x : Context) (routes : List ℕ) (id : ℕ) (c : List ℕ) → withBuffered expired x routes id [] c ≡ c
+unfolding bufferedOver
+none-buffered true x routes id c = refl
+none-buffered false x routes id c = refl
+
 -- the first k of them were passed; all of them where the anchor was popped, and where it was not the read ended
-pub record AnchorPassed (x : Context) (routes : List ℕ) (l : List (List ℕ)) (r q : RangeRead) : Type 0 where
+pub record AnchorPassed (x : Context) (routes : List ℕ) (id : ℕ) (expired : Bool) (l : List (List ℕ)) (r q : RangeRead) : Type 0 where
   pub k : ℕ
+  pub buffered : q .walk .counts .buffered ≡ withBuffered expired x routes id (take k l) (r .walk .counts .buffered)
   pub counts : (p : ℕ) → passedIn (q .walk .counts) p ≡ passedIn (r .walk .counts) p + oursIn (x .shard) routes p (take k l)
   pub eight : Eight (q .walk .counts)
   pub popped-or-ended : ((q .pops ≡ r .pops + 1) × (take k l ≡ l)) ⊎ ((q .pops ≡ r .pops) × (q .ended ≡ true))
@@ -276,6 +286,10 @@ looked-number : (x : Context) (id : ℕ) (w : Walk) → looked x id w .number �
 unfolding looked
 looked-number x id w = refl
 
+looked-key : (x : Context) (id : ℕ) (w : Walk) → looked x id w .place .key ≡ lookKey x id
+unfolding looked
+looked-key x id w = refl
+
 looked-offset : (x : Context) (id : ℕ) (w : Walk) → looked x id w .place .key .«msgs_offset» ≡ offsetIn (x .position) id
 unfolding looked
 looked-offset x id w = refl
@@ -292,7 +306,7 @@ module _ (x : Context) (routes : List ℕ) (time : ChainTime) (sound : routesNum
       (pick-both P (expiredAt (x .«chain_time») time (x .limit)) _ _ (λ e. looked-number x id (r .walk) ∙ n) (finished-going x time (length l) (s .value) r))
 
   module _ (id : ℕ) (l : List (List ℕ)) (r : RangeRead) (eight : Eight (r .walk .counts)) where
-    expired-passed : AnchorPassed x routes (drop (offsetIn (x .position) id) l) r (expired x time (expiredOver (x .shard) routes (unread (looked x id (r .walk)) l) (looked x id (r .walk) .counts .expired)) (looked x id (r .walk)) r)
+    expired-passed : AnchorPassed x routes id true (drop (offsetIn (x .position) id) l) r (expired x time (expiredOver (x .shard) routes (unread (looked x id (r .walk)) l) (looked x id (r .walk) .counts .expired)) (looked x id (r .walk)) r)
     unfolding expired
     expired-passed =
         let w = looked x id (r .walk) in
@@ -303,13 +317,14 @@ module _ (x : Context) (routes : List ℕ) (time : ChainTime) (sound : routesNum
         let g : expiredOver (x .shard) routes (unread w l) (w .counts .expired) ≡ expiredOver (x .shard) routes u (r .walk .counts .expired) = ap (λ (n : ℕ). expiredOver (x .shard) routes (drop n l) (w .counts .expired)) o ∙ ap (λ (n : ReadCounts). expiredOver (x .shard) routes u (n .expired)) c in
         record {
           k = length u;
+          buffered = ap (λ (n : ReadCounts). n .buffered) c;
           counts = λ p. rw (a, g) (omega (arith, over-at (x .shard) routes sound u (r .walk .counts .expired) p (eight .expired), ap (λ (n : ReadCounts). getD (n .read) p 0) c));
           eight = record { read = ap (λ (n : ReadCounts). length (n .read)) c ∙ eight .read; expired = ap length g ∙ (over-long (x .shard) routes sound u (r .walk .counts .expired) ∙ eight .expired) };
           popped-or-ended = inl (refl, a);
         }
 
     walked-passed : finished x time (length l) (messagesRead x routes time (unread (looked x id (r .walk)) l) (silent (looked x id (r .walk))) .value) r .walk .number ≡ 0
-        → AnchorPassed x routes (drop (offsetIn (x .position) id) l) r (finished x time (length l) (messagesRead x routes time (unread (looked x id (r .walk)) l) (silent (looked x id (r .walk))) .value) r)
+        → AnchorPassed x routes id false (drop (offsetIn (x .position) id) l) r (finished x time (length l) (messagesRead x routes time (unread (looked x id (r .walk)) l) (silent (looked x id (r .walk))) .value) r)
     walked-passed e =
         let w = looked x id (r .walk) in
         let u = drop (offsetIn (x .position) id) l in
@@ -324,6 +339,11 @@ module _ (x : Context) (routes : List ℕ) (time : ChainTime) (sound : routesNum
         let n : length u ≡ length l - offsetIn (x .position) id = length-drop (offsetIn (x .position) id) l in
         record {
           k = h .k;
+          buffered =
+              ap (λ (d : ReadCounts). d .buffered) f
+              ∙ (h .buffered
+              ∙ (ap (λ (n : ExternalKey). bufferedOver x routes n (take (h .k) (unread w l)) (w .counts .buffered)) (looked-key x id (r .walk))
+              ∙ (ap (λ (m : List (List ℕ)). bufferedOver x routes (lookKey x id) m (w .counts .buffered)) t ∙ ap (λ (n : ReadCounts). bufferedOver x routes (lookKey x id) (take (h .k) u) (n .buffered)) c)));
           counts = λ p. omega (arith, ap (λ (d : ReadCounts). getD (d .read) p 0 + getD (d .expired) p 0) f, ap (λ (d : List ℕ). getD d p 0) g, ap (λ (d : List ℕ). getD d p 0) b, over-at (x .shard) routes sound (take (h .k) u) (r .walk .counts .read) p (eight .read));
           eight = record {
             read = ap (λ (d : ReadCounts). length (d .read)) f ∙ (ap length g ∙ (over-long (x .shard) routes sound (take (h .k) u) (r .walk .counts .read) ∙ eight .read));
@@ -336,7 +356,7 @@ module _ (x : Context) (routes : List ℕ) (time : ChainTime) (sound : routesNum
         ended q u k (inl h) f = inl (h .0, take-all k u (f (h .1)))
         ended q u k (inr h) f = inr h
 
-    pub anchor-passed : anchorRead x routes id time l r .value .walk .number ≡ 0 → AnchorPassed x routes (unreadIn x id l) r (anchorRead x routes id time l r .value)
+    pub anchor-passed : anchorRead x routes id time l r .value .walk .number ≡ 0 → AnchorPassed x routes id (expiredAt (x .«chain_time») time (x .limit)) (unreadIn x id l) r (anchorRead x routes id time l r .value)
     unfolding anchorRead oursIn
     anchor-passed = go (ltb id (x .position .«anchor_id»)) (expiredAt (x .«chain_time») time (x .limit))
       where
@@ -344,8 +364,8 @@ module _ (x : Context) (routes : List ℕ) (time : ChainTime) (sound : routesNum
         w = looked x id (r .walk)
 
         go : (a b : Bool) → pick a (silent (popped r)) (pick b (silent (expired x time (expiredOver (x .shard) routes (unread w l) (w .counts .expired)) w r)) (walked x time (length l) (messagesRead x routes time (unread w l) (silent w)) r)) .value .walk .number ≡ 0
-            → AnchorPassed x routes (pick a [] (drop (offsetIn (x .position) id) l)) r (pick a (silent (popped r)) (pick b (silent (expired x time (expiredOver (x .shard) routes (unread w l) (w .counts .expired)) w r)) (walked x time (length l) (messagesRead x routes time (unread w l) (silent w)) r)) .value)
-        go true b e = record { k = 0; counts = λ p. omega arith; eight = eight; popped-or-ended = inl (refl, refl) }
+            → AnchorPassed x routes id b (pick a [] (drop (offsetIn (x .position) id) l)) r (pick a (silent (popped r)) (pick b (silent (expired x time (expiredOver (x .shard) routes (unread w l) (w .counts .expired)) w r)) (walked x time (length l) (messagesRead x routes time (unread w l) (silent w)) r)) .value)
+        go true b e = record { k = 0; buffered = sym (none-buffered b x routes id (r .walk .counts .buffered)); counts = λ p. omega arith; eight = eight; popped-or-ended = inl (refl, refl) }
         go false true e = expired-passed
         go false false e = walked-passed e
 
@@ -389,18 +409,36 @@ unfolding oursIn
 ours-append shard routes p [] b = omega arith
 ours-append shard routes p (m ∷ a) b = omega (arith, ours-append shard routes p a b)
 
+-- the buffered counts with all anchors of a list, and with the first k unread messages of its front
+abbrev pub anchorBuffered : Context → List ℕ → Anchor → List (List ℕ) → List ℕ → List ℕ
+anchorBuffered x routes a l c = withBuffered (expiredAt (x .«chain_time») (record { 0 = a .time }) (x .limit)) x routes (a .id) l c
+
+unfoldable pub allBuffered : Context → List ℕ → List Anchor → List ℕ → List ℕ
+allBuffered x routes [] c = c
+allBuffered x routes (a ∷ l) c = allBuffered x routes l (anchorBuffered x routes a (unreadIn x (a .id) (a .messages)) c)
+
+unfoldable pub frontBuffered : Context → List ℕ → ℕ → List Anchor → List ℕ → List ℕ
+frontBuffered x routes k [] c = c
+frontBuffered x routes k (a ∷ l) c = anchorBuffered x routes a (take k (unreadIn x (a .id) (a .messages))) c
+
+front-none : (x : Context) (routes : List ℕ) (l : List Anchor) (c : List ℕ) → frontBuffered x routes 0 l c ≡ c
+unfolding frontBuffered
+front-none x routes [] c = refl
+front-none x routes (a ∷ l) c = none-buffered (expiredAt (x .«chain_time») (record { 0 = a .time }) (x .limit)) x routes (a .id) c
+
 -- the first n anchors were popped, and k messages of the one behind them were passed
 pub record Conserved (x : Context) (routes : List ℕ) (l : List Anchor) (r q : RangeRead) : Type 0 where
   pub n : ℕ
   pub k : ℕ
   pub pops : q .pops ≡ r .pops + n
+  pub buffered : q .walk .counts .buffered ≡ frontBuffered x routes k (drop n l) (allBuffered x routes (take n l) (r .walk .counts .buffered))
   pub counts : (p : ℕ) → passedIn (q .walk .counts) p ≡ passedIn (r .walk .counts) p + (oursIn (x .shard) routes p (unreadAll x (take n l)) + oursIn (x .shard) routes p (take k (frontUnread x (drop n l))))
 
 module _ (x : Context) (routes : List ℕ) (sound : routesNumber routes ≡ 0) where
   pub every-message-of-ours-passed-is-counted-as-read-or-expired : (l : List Anchor) (s : Outcome RangeRead) → s .value .walk .number ≡ 0 → Eight (s .value .walk .counts) → anchorsRead x routes l s .value .walk .number ≡ 0
       → Conserved x routes l (s .value) (anchorsRead x routes l s .value)
-  unfolding anchorsRead unreadAll frontUnread oursIn
-  every-message-of-ours-passed-is-counted-as-read-or-expired [] s z e = λ h. record { n = 0; k = 0; pops = omega arith; counts = λ p. omega arith }
+  unfolding anchorsRead unreadAll frontUnread oursIn allBuffered frontBuffered
+  every-message-of-ours-passed-is-counted-as-read-or-expired [] s z e = λ h. record { n = 0; k = 0; pops = omega arith; buffered = refl; counts = λ p. omega arith }
   every-message-of-ours-passed-is-counted-as-read-or-expired (a ∷ l) s z e = go (λ y f n. every-message-of-ours-passed-is-counted-as-read-or-expired l (nextRead x routes a s) y f n) (nextRead x routes a s .value .ended) refl
     where
       t : Outcome RangeRead
@@ -409,14 +447,23 @@ module _ (x : Context) (routes : List ℕ) (sound : routesNumber routes ≡ 0) w
       u : List (List ℕ)
       u = unreadIn x (a .id) (a .messages)
 
-      ended-here : AnchorPassed x routes u (s .value) (t .value) → Conserved x routes (a ∷ l) (s .value) (t .value)
+      old : Bool
+      old = expiredAt (x .«chain_time») (record { 0 = a .time }) (x .limit)
+
+      ended-here : AnchorPassed x routes (a .id) old u (s .value) (t .value) → Conserved x routes (a ∷ l) (s .value) (t .value)
       ended-here f = by (f .popped-or-ended)
         where
           by : ((t .value .pops ≡ s .value .pops + 1) × (take (f .k) u ≡ u)) ⊎ ((t .value .pops ≡ s .value .pops) × (t .value .ended ≡ true)) → Conserved x routes (a ∷ l) (s .value) (t .value)
-          by (inl g) = record { n = 1; k = 0; pops = g .0; counts = λ p. f .counts p ∙ (rw (g .1) (omega (arith, ours-append (x .shard) routes p u []))) }
-          by (inr g) = record { n = 0; k = f .k; pops = g .0 ∙ (omega arith); counts = λ p. f .counts p ∙ (omega arith) }
+          by (inl g) = record {
+            n = 1;
+            k = 0;
+            pops = g .0;
+            buffered = f .buffered ∙ (ap (λ (m : List (List ℕ)). anchorBuffered x routes a m (s .value .walk .counts .buffered)) (g .1) ∙ sym (front-none x routes l (anchorBuffered x routes a u (s .value .walk .counts .buffered))));
+            counts = λ p. f .counts p ∙ (rw (g .1) (omega (arith, ours-append (x .shard) routes p u [])));
+          }
+          by (inr g) = record { n = 0; k = f .k; pops = g .0 ∙ (omega arith); buffered = f .buffered; counts = λ p. f .counts p ∙ (omega arith) }
 
-      going-on : AnchorPassed x routes u (s .value) (t .value) → t .value .ended ≡ false → Conserved x routes l (t .value) (anchorsRead x routes l t .value) → Conserved x routes (a ∷ l) (s .value) (anchorsRead x routes l t .value)
+      going-on : AnchorPassed x routes (a .id) old u (s .value) (t .value) → t .value .ended ≡ false → Conserved x routes l (t .value) (anchorsRead x routes l t .value) → Conserved x routes (a ∷ l) (s .value) (anchorsRead x routes l t .value)
       going-on f d h = by (f .popped-or-ended)
         where
           by : ((t .value .pops ≡ s .value .pops + 1) × (take (f .k) u ≡ u)) ⊎ ((t .value .pops ≡ s .value .pops) × (t .value .ended ≡ true)) → Conserved x routes (a ∷ l) (s .value) (anchorsRead x routes l t .value)
@@ -424,6 +471,9 @@ module _ (x : Context) (routes : List ℕ) (sound : routesNumber routes ≡ 0) w
             n = suc (h .n);
             k = h .k;
             pops = omega (arith, h .pops, g .0);
+            buffered =
+                h .buffered
+                ∙ ap (λ (c : List ℕ). frontBuffered x routes (h .k) (drop (h .n) l) (allBuffered x routes (take (h .n) l) c)) (f .buffered ∙ ap (λ (m : List (List ℕ)). anchorBuffered x routes a m (s .value .walk .counts .buffered)) (g .1));
             counts = λ p. h .counts p ∙ omega (arith, rw (g .1) at (f .counts p), ours-append (x .shard) routes p u (unreadAll x (take (h .n) l)));
           }
           by (inr g) = absurd (let y : _≡_ {A = ℕ} 0 1 = cc in omega arith)
@@ -443,6 +493,9 @@ module _ (tables area : List ℕ) (t : AnchorsCacheTransaction) (shard : ShardId
     pub n : ℕ
     pub k : ℕ
     pub state : readCall tables area t shard routes limits processed timeout mode range out .answer .state ≡ withCache t (poppedTimes n tables (t .cache))
+    pub buffered : readCall tables area t shard routes limits processed timeout mode range out .answer .counts .buffered
+        ≡ frontBuffered (contextOf shard limits processed timeout mode range (length out)) routes k (drop n (view tables area (t .cache) .anchors))
+        (allBuffered (contextOf shard limits processed timeout mode range (length out)) routes (take n (view tables area (t .cache) .anchors)) (replicate 8 0))
     pub counts : (p : ℕ) → passedIn (readCall tables area t shard routes limits processed timeout mode range out .answer .counts) p
         ≡ oursIn shard routes p (unreadAll (contextOf shard limits processed timeout mode range (length out)) (take n (view tables area (t .cache) .anchors)))
         + oursIn shard routes p (take k (frontUnread (contextOf shard limits processed timeout mode range (length out)) (drop n (view tables area (t .cache) .anchors))))
@@ -476,6 +529,7 @@ module _ (tables area : List ℕ) (t : AnchorsCacheTransaction) (shard : ShardId
       record {
         n = h .n;
         k = h .k;
+        buffered = ap (λ (q : ReadResult). q .answer .counts .buffered) d ∙ h .buffered;
         state = ap (λ (q : ReadResult). q .answer .state) d ∙ ap (λ (i : ℕ). withCache t (poppedTimes i tables (t .cache))) g;
         counts = λ p. ap (λ (q : ReadResult). passedIn (q .answer .counts) p) d ∙ (h .counts p ∙ omega (arith, zeros 8 p 0));
       }

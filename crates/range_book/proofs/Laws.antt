@@ -7,6 +7,7 @@ use mathlib.Core.Logic.{_⊎_, inl, inr}
 use native.Mathlib.Omega.{arith}
 use lib.Dec.{eqb, ltb}
 use lib.ListN.{length, getD, drop}
+use lib.Seq.{sets}
 use borrow.Author.Tests.{le-ltb, eqb-true}
 use Rattle.rows.specs.Rows.{pick}
 use Rattle.rows.proofs.Laws.{rows-length}
@@ -19,7 +20,8 @@ use Rattle.shard_ident.specs.Shard.{isOurs}
 use Rattle.router.specs.Router.{partitionOf}
 use Rattle.messages_buffer.specs.Fullness.{rangeFull, firstNo}
 use Rattle.anchors_cache.specs.declared.AnchorsCacheTransaction.{AnchorsCacheTransaction}
-use Rattle.anchors_cache.specs.Rules.{Anchor, Row, total}
+use Rattle.anchors_cache.specs.declared.AnchorsCache.{AnchorsCache}
+use Rattle.anchors_cache.specs.Rules.{Anchor, Cache, Row, total}
 use Rattle.anchors_cache.specs.Tables.{view, withMessages, anchorsOf}
 use Rattle.anchors_cache.specs.Windows.{poppedTimes}
 use Rattle.anchors_cache.specs.Calls.{withCache}
@@ -29,13 +31,13 @@ use Rattle.range_reader.specs.declared.Place.{Place}
 use Rattle.range_reader.specs.declared.Walk.{Walk}
 use Rattle.range_reader.specs.declared.RangeRead.{RangeRead}
 use Rattle.range_reader.specs.declared.ReadCounts.{ReadCounts}
-use Rattle.range_reader.specs.declared.ReadExternals.{ReadExternals}
 use Rattle.range_reader.specs.declared.ExternalsRangeReaderState.{ExternalsRangeReaderState}
 use Rattle.range_reader.specs.declared.ProcessedTo.{ProcessedTo}
 use Rattle.range_reader.specs.declared.ReadNextExternalsMode.{ReadNextExternalsMode}
 use Rattle.range_reader.specs.Rules.{Outcome, silent, followed, advanced, stopped, refusedWith, verdictOn, ourRead, messageRead, messagesRead, popped, lookKey, looked, expired, isWhole, ends, finished, unread, walked, anchorRead, nextRead, anchorsRead}
 use Rattle.range_reader.specs.Ready.{Within}
-use Rattle.range_reader.specs.Calls.{askedNumber, contextOf, entryOf, refusedAnswer, doneResult, rangeRead, readCall}
+use Rattle.range_reader.specs.Calls.{askedNumber, contextOf, entryOf, refusedAnswer, doneAnswer, doneResult, rangeRead, readCall}
+use Rattle.cache_book.proofs.Free.{Agree, free-bytes, times-same}
 use Rattle.range_reader.proofs.Counts.{pick-both, after-place, within-up}
 use Rattle.range_reader.proofs.AnchorLaws.{anchor-kept}
 use Rattle.range_reader.proofs.Numbers.{first-zero, passed}
@@ -184,27 +186,27 @@ module _ (tables area : List ℕ) (t : AnchorsCacheTransaction) (shard : ShardId
       go false e = record { read = λ i. zeros 8 i 1024; expired = λ i. zeros 8 i 1024; buffered = λ i. zeros 8 i 1024 }
 
 -- ---- free bytes
--- an answer but for the transaction
-abbrev pub besideState : AnchorsCacheTransaction → ReadExternals → ReadExternals
-besideState t a = record { number = a .number; «last_chain_time» = a .«last_chain_time»; full = a .full; counts = a .counts; range = a .range; state = t }
+module _ (tables area tables′ area′ : List ℕ) (t : AnchorsCacheTransaction) (g : Agree tables area tables′ area′ t)
+    (shard : ShardIdent) (routes limits : List ℕ) (processed : List ProcessedTo) (timeout : Seconds) (mode : ReadNextExternalsMode) (range : ExternalsRangeReaderState) where
+  asked-same : askedNumber tables area t shard routes limits range ≡ askedNumber tables′ area′ t shard routes limits range
+  unfolding askedNumber
+  asked-same = rw (g .broad, free-bytes tables area tables′ area′ t g (length area′) .check)
 
-module _ (tables tables' area area' : List ℕ) (t : AnchorsCacheTransaction) (shard : ShardIdent) (routes limits : List ℕ) (processed : List ProcessedTo) (timeout : Seconds) (mode : ReadNextExternalsMode) (range : ExternalsRangeReaderState)
-    (same : view tables area (t .cache) .anchors ≡ view tables' area' (t .cache) .anchors) where
-  pub the-six-steps-see-the-bytes-of-cached-anchors-only : (room : ℕ) → rangeRead tables area t shard routes limits processed timeout mode range room ≡ rangeRead tables' area' t shard routes limits processed timeout mode range room
+  steps-same : (room : ℕ) → rangeRead tables area t shard routes limits processed timeout mode range room ≡ rangeRead tables′ area′ t shard routes limits processed timeout mode range room
   unfolding rangeRead
-  the-six-steps-see-the-bytes-of-cached-anchors-only room = ap (λ (l : List Anchor). anchorsRead (contextOf shard limits processed timeout mode range room) routes l (silent (entryOf range (rangeFull limits (range .«by_partitions»))))) same
+  steps-same room =
+      ap (λ (v : Cache). anchorsRead (contextOf shard limits processed timeout mode range room) routes (v .anchors) (silent (entryOf range (rangeFull limits (range .«by_partitions»))))) (g .now)
 
-  pub no-read-depends-on-free-bytes : (out : List ℕ) → askedNumber tables area t shard routes limits range ≡ askedNumber tables' area' t shard routes limits range
-      → (readCall tables area t shard routes limits processed timeout mode range out .out ≡ readCall tables' area' t shard routes limits processed timeout mode range out .out)
-      × (besideState t (readCall tables area t shard routes limits processed timeout mode range out .answer) ≡ besideState t (readCall tables' area' t shard routes limits processed timeout mode range out .answer))
+  -- two tables and two areas that agree on what is cached or restorable by a rollback give the same number, answer, range, transaction and output bytes
+  pub no-read-depends-on-free-bytes : (out : List ℕ) → readCall tables area t shard routes limits processed timeout mode range out ≡ readCall tables′ area′ t shard routes limits processed timeout mode range out
   unfolding readCall
-  no-read-depends-on-free-bytes out e =
-      let s = rangeRead tables' area' t shard routes limits processed timeout mode range (length out) in
-      let n = firstNo (askedNumber tables' area' t shard routes limits range ∷ s .value .walk .number ∷ []) in
-      rw (e, the-six-steps-see-the-bytes-of-cached-anchors-only (length out)) (beside s n (eqb n 0))
+  no-read-depends-on-free-bytes out =
+      let s = rangeRead tables′ area′ t shard routes limits processed timeout mode range (length out) in
+      let n = firstNo (askedNumber tables′ area′ t shard routes limits range ∷ s .value .walk .number ∷ []) in
+      rw (asked-same, steps-same (length out)) (both s n (eqb n 0))
     where
-      beside : (s : Outcome RangeRead) (n : ℕ) (b : Bool)
-          → (pick b (doneResult tables t range s out) (record { answer = refusedAnswer n range t; out = out }) .out ≡ pick b (doneResult tables' t range s out) (record { answer = refusedAnswer n range t; out = out }) .out)
-          × (besideState t (pick b (doneResult tables t range s out) (record { answer = refusedAnswer n range t; out = out }) .answer) ≡ besideState t (pick b (doneResult tables' t range s out) (record { answer = refusedAnswer n range t; out = out }) .answer))
-      beside s n true = (refl, refl)
-      beside s n false = (refl, refl)
+      both : (s : Outcome RangeRead) (n : ℕ) (b : Bool)
+          → pick b (doneResult tables t range s out) (record { answer = refusedAnswer n range t; out = out }) ≡ pick b (doneResult tables′ t range s out) (record { answer = refusedAnswer n range t; out = out })
+      both s n true =
+          ap (λ (c : AnchorsCache). record { answer = doneAnswer range (s .value) (withCache t c); out = sets out 0 (s .entries) }) (times-same tables area tables′ area′ (g .tall) (s .value .pops) (t .cache) (g .now))
+      both s n false = refl
