@@ -1,0 +1,53 @@
+use borrow.Author.Needs.{needs}
+use Prim.Native.Nat.{_-_}
+use Rattle.range_probe.proofs.lines.put_ranges.Statement.{statement}
+use Rattle.range_probe.proofs.lines.put_ranges.Tie as tie
+
+abbrev Inv-loop : tie.InvT-loop
+Inv-loop out₀ at reader to₀ i₀ out to i = Unit
+
+abbrev μ-loop : tie.MeasureT-loop
+μ-loop out₀ at reader to₀ i₀ out to i = 16 - i
+
+loop-holds : tie.Need-loop-holds Inv-loop μ-loop
+loop-holds c = search needs
+
+returns : tie.Need-returns Inv-loop μ-loop
+returns c = search needs
+
+mul-r : tie.Need-mul-r Inv-loop μ-loop
+mul-r c = search needs
+
+element-copy-out-r : tie.Need-element-copy-out-r Inv-loop μ-loop
+element-copy-out-r c = search needs
+
+put-range-requires : tie.Need-put-range-requires Inv-loop μ-loop
+put-range-requires c κs = search needs
+
+add-i : tie.Need-add-i Inv-loop μ-loop
+add-i c = search needs
+
+loop-less : tie.Need-loop-less Inv-loop μ-loop
+loop-less c = search needs
+
+loop-again : tie.Need-loop-again Inv-loop μ-loop
+loop-again c = search needs
+
+returns-2 : tie.Need-returns-2 Inv-loop μ-loop
+returns-2 c = search needs
+
+pub put-ranges-spec : {M : Type 1} → statement M
+put-ranges-spec =
+    tie.close
+    (tie.spec
+    Inv-loop
+    μ-loop
+    loop-holds
+    returns
+    mul-r
+    element-copy-out-r
+    put-range-requires
+    add-i
+    loop-less
+    loop-again
+    returns-2)
