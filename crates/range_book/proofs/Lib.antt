@@ -1,3 +1,5 @@
 pub mod Entered
 pub mod Laws
 pub mod Conservation
+pub mod Eleven
+pub mod Entries
