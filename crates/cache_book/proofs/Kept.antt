@@ -21,7 +21,7 @@ use Rattle.anchors_cache.specs.Calls.{placesIn, validCache, valid, refusal, ref
 use Rattle.anchors_cache.proofs.Laws.{anchors-cons, anchors-none, anchors-take, anchors-length, infos-length, total-more, fresh-le, kept-le, history-kept-le, length-info, length-anchor}
 use Rattle.anchors_cache.proofs.Asked.{Parts, parts, valid-parts, at-asked, refusal-zero, refusal-parts, add-refusal, add-yes, add-asks, size-of}
 use Rattle.cache_book.specs.Book.{holds}
-use Rattle.cache_book.proofs.Views.{one-more, rows-of-messages, nonempty-anchors, total-snoc, anchors-half, anchors-now}
+use Rattle.cache_book.proofs.Views.{one-more, rows-of-messages, nonempty-anchors, total-snoc, sound-history, anchors-half, anchors-now}
 
 pub whole : (places : ℕ) (tables : List ℕ) (c : AnchorsCache) → Parts places tables c → validCache places tables c ≡ true
 unfolding validCache
@@ -181,18 +181,9 @@ module _ (tables area : List ℕ) (c : AnchorsCache) (s : Sound tables area c) (
   abbrev d : AnchorsCache
   d = inHistory c
 
-  tall-half : 14912 ≤ length t1
-  tall-half =
-      let t = s .tall in
-      let q = s .in-history in
-      let e = r .entries in
-      let w = length-info a full in
-      let l = appended-length tables 0 (52 * c .«history_first») (52 * c .«history_len») 13312 (infoRow (infoFor a)) (omega arith) (omega arith) (omega arith) in
-      omega arith
-
-  history-placed : (b : Bool) → stays (52 * c .«history_first») (52 * c .«history_len») 52 13312 ≡ b → pick b (c .«history_first») 0 + (c .«history_len» + 1) ≤ 256
-  history-placed true e = let h : 52 * c .«history_first» + 52 * c .«history_len» + 52 ≤ 13312 = leb-true _ _ e in let q = r .entries in omega arith
-  history-placed false e = let q = r .entries in omega arith
+  -- the first half of the add, as Views has it
+  half-sound : Sound t1 area d
+  half-sound = sound-history tables area c s (infoRow (infoFor a)) (length-info a full) (r .entries)
 
   abbrev places : ℕ
   places = placesIn (length area)
@@ -205,9 +196,9 @@ module _ (tables area : List ℕ) (c : AnchorsCache) (s : Sound tables area c) (
   unfolding inHistory
   half-parts =
       record {
-        tall = tall-half;
+        tall = half-sound .tall;
         in-anchors = p .in-anchors;
-        in-history = history-placed (stays (52 * c .«history_first») (52 * c .«history_len») 52 13312) refl;
+        in-history = half-sound .in-history;
         sound = rw half-same (p .sound);
         few = rw half-same (p .few);
         in-area = rw half-same (p .in-area);
@@ -233,7 +224,7 @@ module _ (tables area : List ℕ) (c : AnchorsCache) (s : Sound tables area c) (
 
     tall-whole : 14912 ≤ length t2
     tall-whole =
-        let t = tall-half in
+        let t = half-sound .tall in
         let q = half-parts .in-anchors in
         let f = few-anchors in
         let w = length-anchor a full in
