@@ -160,7 +160,7 @@ pub fresh-le : (ct first len : ℕ) (l : List ℕ) → length (dropStale ct (inf
 fresh-le ct first len l = omega (arith, stale-le ct (infos first len l), infos-length first len l)
 
 -- ---- pops one after the other
-popped-empty : (tables : List ℕ) (c : AnchorsCache) → c .len ≤ 0 → poppedCache tables c ≡ c
+pub popped-empty : (tables : List ℕ) (c : AnchorsCache) → c .len ≤ 0 → poppedCache tables c ≡ c
 unfolding poppedCache
 popped-empty tables c e = ap (λ (l : List Row). poppedBy l tables c) (anchors-none (c .first) (c .len) tables e)
 

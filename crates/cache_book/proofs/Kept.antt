@@ -16,9 +16,9 @@ use Rattle.anchors_cache.specs.declared.AnchorsCacheTransaction.{AnchorsCacheTr
 use Rattle.anchors_cache.specs.declared.MempoolAnchor.{MempoolAnchor}
 use Rattle.anchors_cache.specs.Rules.{Row, soundRow, soundFrom, soundCache, total, sameBool, lastOf, aboveLast, ask}
 use Rattle.anchors_cache.specs.Tables.{anchorRow, infoRow, anchors, anchorAt, anchorsOf, historyOf, view}
-use Rattle.anchors_cache.specs.Windows.{keptLen, poppedBy, poppedCache, poppedTimes, trimmedCache, noCache, inHistory, historyAdded, inCache, anchorAdded, infoFor, usedBy, addedCache, addedTables, Sound, Room}
+use Rattle.anchors_cache.specs.Windows.{keptLen, poppedCache, poppedTimes, trimmedCache, noCache, inHistory, historyAdded, inCache, anchorAdded, infoFor, usedBy, addedCache, addedTables, Sound, Room}
 use Rattle.anchors_cache.specs.Calls.{placesIn, validCache, valid, refusal, refusalAt, answer, onZero, withCache, rowFor, addNumber, popAnswer, popCall, popsCall, trimAnswer, trimCall, clearCall, openCall, commitCall, rollbackCall, closeCall}
-use Rattle.anchors_cache.proofs.Laws.{anchors-cons, anchors-none, anchors-take, anchors-length, infos-length, total-more, fresh-le, kept-le, history-kept-le, length-info, length-anchor}
+use Rattle.anchors_cache.proofs.Laws.{anchors-cons, anchors-take, anchors-length, infos-length, total-more, popped-empty, fresh-le, kept-le, history-kept-le, length-info, length-anchor}
 use Rattle.anchors_cache.proofs.Asked.{Parts, parts, valid-parts, at-asked, refusal-zero, refusal-parts, add-refusal, add-yes, add-asks, size-of}
 use Rattle.cache_book.specs.Book.{holds}
 use Rattle.cache_book.proofs.Views.{one-more, rows-of-messages, nonempty-anchors, total-snoc, sound-history, anchors-half, anchors-now}
@@ -111,12 +111,8 @@ module _ (places : ℕ) (tables : List ℕ) where
         pend = rw (one-more (c .len)) (same-refl (ltb 1 (c .len)));
       })
 
-  popped-empty : (c : AnchorsCache) → c .len ≡ 0 → poppedCache tables c ≡ c
-  unfolding poppedCache
-  popped-empty c e = ap (λ (l : List Row). poppedBy l tables c) (anchors-none (c .first) (c .len) tables (omega arith))
-
   pub popped-parts : (c : AnchorsCache) → Parts places tables c → Parts places tables (poppedCache tables c)
-  popped-parts c p = ⊎-elim (λ (e : c .len ≡ 0). subst (Parts places tables) (sym (popped-empty c e)) p) (popped-some c p) (eq-zero-or-pos (c .len))
+  popped-parts c p = ⊎-elim (λ (e : c .len ≡ 0). subst (Parts places tables) (sym (popped-empty tables c (omega arith))) p) (popped-some c p) (eq-zero-or-pos (c .len))
 
   pub times-parts : (n : ℕ) (c : AnchorsCache) → Parts places tables c → Parts places tables (poppedTimes n tables c)
   unfolding poppedTimes

@@ -1,5 +1,5 @@
 -- Every message of ours that the read passes is counted once, as read or as expired, in its own partition.
-use Prim.Native.Nat.{ℕ, suc, zero, _+_, _-_, _≤_, _<_}
+use Prim.Native.Nat.{ℕ, suc, _+_, _-_, _≤_, _<_}
 use mathlib.Core.Path.{_≡_, refl, sym, ap, _∙_}
 use mathlib.Core.Bool.{Bool, true, false, not, _||_}
 use mathlib.Core.List.{List, [], _∷_, _++_}
@@ -8,7 +8,7 @@ use native.Mathlib.Omega.{arith}
 use lib.Dec.{eqb, ltb, leb}
 use lib.ListN.{length, getD, take, drop, replicate, length-set, length-drop}
 use lib.Seq.{getD-set-same, getD-set-other, take-all}
-use borrow.Author.Tests.{eqb-true, eqb-false, ne-eqb, eq-eqb}
+use borrow.Author.Tests.{eqb-true, eqb-false, ne-eqb}
 use Rattle.rows.specs.Rows.{pick}
 use Rattle.rows.proofs.Laws.{pick-yes}
 use Rattle.ext_types.specs.declared.ChainTime.{ChainTime}
@@ -21,7 +21,7 @@ use Rattle.shard_ident.specs.Shard.{isOurs}
 use Rattle.router.specs.Router.{partitionOf, routesNumber}
 use Rattle.router.proofs.Laws.{a-partition-is-at-most-7}
 use Rattle.messages_buffer.specs.declared.ExternalsPartitionRangeReaderState.{ExternalsPartitionRangeReaderState}
-use Rattle.messages_buffer.specs.Fullness.{noPartition, rangeFull, firstNo}
+use Rattle.messages_buffer.specs.Fullness.{noPartition, rangeFull}
 use Rattle.anchors_cache.specs.declared.AnchorsCacheTransaction.{AnchorsCacheTransaction}
 use Rattle.anchors_cache.specs.Rules.{Anchor}
 use Rattle.anchors_cache.specs.Tables.{view}
@@ -38,11 +38,12 @@ use Rattle.range_reader.specs.declared.ReadNextExternalsMode.{ReadNextExternals
 use Rattle.range_reader.specs.declared.Verdict.{Verdict}
 use Rattle.range_reader.specs.declared.Verdict.the-variants.{Keep, Buffer, Refuse}
 use Rattle.range_reader.specs.Rules.{lookKey, Outcome, silent, followed, nextKey, advanced, ends, stopped, judge, noProcessed, more, refusedWith, readOne, bufferOne, after, verdictOn, ourRead, messageRead, messagesRead, popped, offsetIn, looked, expiredOne, expiredOver, expired, isWhole, finished, unread, walked, anchorRead, nextRead, anchorsRead}
-use Rattle.range_reader.specs.Calls.{askedNumber, contextOf, entryOf, refusedAnswer, doneResult, rangeRead, ReadResult, readCall}
+use Rattle.range_reader.specs.Calls.{contextOf, entryOf, rangeRead, ReadResult, readCall}
 use Rattle.range_reader.proofs.Counts.{pick-both}
-use Rattle.range_reader.proofs.Numbers.{first-zero, first-alone, passed}
+use Rattle.range_reader.proofs.Numbers.{passed}
 use Rattle.range_reader.proofs.CallLaws.{zeros}
 use Rattle.range_book.proofs.Laws.{message-place, finished-place}
+use Rattle.range_book.proofs.Bounds.{a-read-with-number-0-does-the-six-steps}
 
 -- ---- counting per partition
 -- ours of partition p among some messages
@@ -503,28 +504,14 @@ module _ (tables area : List ℕ) (t : AnchorsCacheTransaction) (shard : ShardId
   abbrev six-steps : Outcome RangeRead
   six-steps = rangeRead tables area t shard routes limits processed timeout mode range (length out)
 
-  zero-number : readCall tables area t shard routes limits processed timeout mode range out .answer .number ≡ 0 → firstNo (askedNumber tables area t shard routes limits range ∷ six-steps .value .walk .number ∷ []) ≡ 0
-  unfolding readCall
-  zero-number = zero (firstNo (askedNumber tables area t shard routes limits range ∷ six-steps .value .walk .number ∷ [])) (eqb (firstNo (askedNumber tables area t shard routes limits range ∷ six-steps .value .walk .number ∷ [])) 0) refl
-    where
-      zero : (n : ℕ) (b : Bool) → eqb n 0 ≡ b → pick b (doneResult tables t range six-steps out) (record { answer = refusedAnswer n range t; out = out }) .answer .number ≡ 0 → n ≡ 0
-      zero n true h e = eqb-true n 0 h
-      zero n false h e = e
-
-  done-call : firstNo (askedNumber tables area t shard routes limits range ∷ six-steps .value .walk .number ∷ []) ≡ 0 → readCall tables area t shard routes limits processed timeout mode range out ≡ doneResult tables t range six-steps out
-  unfolding readCall
-  done-call z = pick-yes _ _ _ (eq-eqb (firstNo (askedNumber tables area t shard routes limits range ∷ six-steps .value .walk .number ∷ [])) 0 z)
-
   pub ours-passed-by-a-call-is-read-or-expired : readCall tables area t shard routes limits processed timeout mode range out .answer .number ≡ 0 → CallConserved
   unfolding rangeRead
   ours-passed-by-a-call-is-read-or-expired e =
       let x = contextOf shard limits processed timeout mode range (length out) in
-      let z = zero-number e in
-      let d = done-call z in
-      let f = first-zero _ _ z in
-      let w : six-steps .value .walk .number ≡ 0 = sym (first-alone (six-steps .value .walk .number)) ∙ f .1 in
+      let c = a-read-with-number-0-does-the-six-steps tables area t shard routes limits processed timeout mode range out e in
+      let d = c .done in
       let r = entryOf range (rangeFull limits (range .«by_partitions»)) in
-      let h = every-message-of-ours-passed-is-counted-as-read-or-expired x routes (passed tables area t shard routes limits range (f .0) .routes-sound) (view tables area (t .cache) .anchors) (silent r) refl (record { read = refl; expired = refl }) w in
+      let h = every-message-of-ours-passed-is-counted-as-read-or-expired x routes (passed tables area t shard routes limits range (c .asked) .routes-sound) (view tables area (t .cache) .anchors) (silent r) refl (record { read = refl; expired = refl }) (c .walked) in
       let g : six-steps .value .pops ≡ h .n = h .pops ∙ (omega arith) in
       record {
         n = h .n;

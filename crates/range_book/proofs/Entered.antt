@@ -32,7 +32,7 @@ unfolding answer
 by-number zero tables t range s out = refl
 by-number (suc k) tables t range s out = rw (ne-eqb (suc k) 0 (λ (e : suc k ≡ 0). omega arith))
 
-accepted : (tables area : List ℕ) (t : AnchorsCacheTransaction) → areaBytes ≤ length area
+pub accepted : (tables area : List ℕ) (t : AnchorsCacheTransaction) → areaBytes ≤ length area
     → validCache (placesIn (length area)) tables (t .cache) ≡ true → validCache (placesIn (length area)) tables (t .undo) ≡ true → refusal (length area) tables t ≡ 0
 unfolding refusal
 accepted tables area t big now then =
@@ -72,24 +72,24 @@ module _ (h : Handed) (tables area : List ℕ) (t : AnchorsCacheTransaction) whe
         ∷ []))
         active)
 
-    agrees : readOnWindow h tables area t ≡ answer number t (withCache t (poppedTimes (bookSteps h (view tables area (t .cache)) .value .pops) tables (t .cache)))
+    pub agrees : readOnWindow h tables area t ≡ answer number t (withCache t (poppedTimes (bookSteps h (view tables area (t .cache)) .value .pops) tables (t .cache)))
     unfolding readOnWindow bookSteps readCall rangeRead
     agrees =
         let s = bookSteps h (view tables area (t .cache)) in
         by-number (firstNo (askedNumber tables area t (h .shard) (h .routes) (h .limits) (h .range) ∷ s .value .walk .number ∷ [])) tables t (h .range) s (h .out)
         ∙ ap (λ (k : ℕ). answer k t (withCache t (poppedTimes (bookSteps h (view tables area (t .cache)) .value .pops) tables (t .cache)))) asked-same
 
-  refused : (v w : Cache) → length area < areaBytes → (readOnWindow h tables area t ≡ record { number = 1; state = t }) × (bookReadNumber h area v w ≡ 1)
+  pub refused : (v w : Cache) → length area < areaBytes → (readOnWindow h tables area t ≡ record { number = 1; state = t }) × (bookReadNumber h area v w ≡ 1)
   unfolding readOnWindow bookReadNumber readCall askedNumber firstNo
   refused v w few = (rw (lt-leb areaBytes (length area) few), rw (lt-leb areaBytes (length area) few))
 
 -- whatever it is handed, a read of one range may stand in the list of `the-book`
-pub one-range : Handed → Reading
+unfoldable pub one-range : Handed → Reading
 one-range h =
     record {
       number = bookReadNumber h;
       pops = λ area present. bookSteps h present .value .pops;
       on-window = readOnWindow h;
-      agrees = agrees h;
+      agrees = λ tables area t active big fits now then. agrees h tables area t active big now then;
       refused = refused h;
     }

@@ -5,7 +5,7 @@ use mathlib.Core.Bool.{Bool, true, false, not}
 use mathlib.Core.List.{List, [], _∷_}
 use native.Mathlib.Omega.{arith}
 use lib.Dec.{eqb, ltb, leb}
-use lib.ListN.{length, getD, length-set, length-append}
+use lib.ListN.{length, getD, length-set}
 use lib.Seq.{sets}
 use borrow.Author.Tests.{leb-true, eqb-true}
 use Rattle.rows.specs.Rows.{pick}
@@ -29,12 +29,10 @@ use Rattle.range_reader.specs.declared.ExternalsRangeReaderState.{ExternalsRang
 use Rattle.range_reader.specs.declared.Verdict.{Verdict}
 use Rattle.range_reader.specs.declared.Verdict.the-variants.{Keep, Buffer, Refuse}
 use Rattle.range_reader.specs.Rules.{Outcome, silent, followed, advanced, ends, stopped, noProcessed, more, refusedWith, readOne, buffered, bufferOne, after, verdictOn, ourRead, messageRead, messagesRead, popped, looked, expiredOver, expired, isWhole, finished, unread, anchorRead, nextRead, anchorsRead}
-use Rattle.range_reader.specs.Ready.{Within}
 use Rattle.range_reader.specs.Calls.{askedNumber, contextOf, entryOf, refusedAnswer, doneResult, rangeRead, readCall}
 use Rattle.range_reader.proofs.Counts.{pick-both, judge-buffer}
-use Rattle.range_reader.proofs.AnchorLaws.{anchor-kept}
 use Rattle.range_reader.proofs.Numbers.{first-zero, passed}
-use Rattle.range_reader.proofs.CallLaws.{zeros}
+use Rattle.range_book.proofs.Laws.{steps-kept}
 
 unfoldable pub sumOf : List ℕ → ℕ
 sumOf [] = 0
@@ -118,18 +116,14 @@ module _ (x : Context) (routes : List ℕ) (sound : routesNumber routes ≡ 0) w
       (pick-both P (expiredAt (x .«chain_time») time (x .limit)) _ _ (expired-tallied x w g time (expiredOver (x .shard) routes (unread w l) (w .counts .expired)) r)
       (finished-tallied x (s .value) (messages-tallied time (unread w l) (silent w) g) time (length l) r))
 
-  record Entered (s : Outcome RangeRead) : Type 0 where
-    tallied : Tallied x (s .value .walk)
-    all : s .value .walk .buffers .used ≡ length (s .entries)
-
-  anchors-entered : (l : List Anchor) (k : ℕ) (s : Outcome RangeRead) → Within x k (s .value .walk) → Entered s → Entered (anchorsRead x routes l s)
+  anchors-tallied : (l : List Anchor) (s : Outcome RangeRead) → Tallied x (s .value .walk) → Tallied x (anchorsRead x routes l s .value .walk)
   unfolding anchorsRead
-  anchors-entered [] k s w h = record { tallied = h .tallied; all = h .all }
-  anchors-entered (a ∷ l) k s w h =
+  anchors-tallied [] s h = h
+  anchors-tallied (a ∷ l) s h =
       let t = nextRead x routes a s in
-      let g = anchor-kept x routes (a .id) (record { 0 = a .time }) (a .messages) k (s .value) w in
-      let n : Entered t = record { tallied = anchor-tallied (a .id) (record { 0 = a .time }) (a .messages) (s .value) (h .tallied); all = g .used-part ∙ simp length-append (omega (arith, h .all)) } in
-      pick-both Entered (t .value .ended) t (anchorsRead x routes l t) n (anchors-entered l (k + length (a .messages)) t (g .within) n)
+      let P : Outcome RangeRead → Type 0 = λ q. Tallied x (q .value .walk) in
+      let n = anchor-tallied (a .id) (record { 0 = a .time }) (a .messages) (s .value) h in
+      pick-both P (t .value .ended) t (anchorsRead x routes l t) n (anchors-tallied l t n)
 
 -- ---- the call
 module _ (tables area : List ℕ) (t : AnchorsCacheTransaction) (shard : ShardIdent) (routes limits : List ℕ) (processed : List ProcessedTo) (timeout : Seconds) (mode : ReadNextExternalsMode) (range : ExternalsRangeReaderState) (out : List ℕ) where
@@ -142,14 +136,15 @@ module _ (tables area : List ℕ) (t : AnchorsCacheTransaction) (shard : ShardId
   abbrev six-steps : Outcome RangeRead
   six-steps = rangeRead tables area t shard routes limits processed timeout mode range (length out)
 
-  steps-entered : (sound : routesNumber routes ≡ 0) → Entered (contextOf shard limits processed timeout mode range (length out)) routes sound six-steps
+  steps-tallied : routesNumber routes ≡ 0 → Tallied (contextOf shard limits processed timeout mode range (length out)) (six-steps .value .walk)
   unfolding rangeRead sumOf
-  steps-entered sound =
+  steps-tallied sound =
       let x = contextOf shard limits processed timeout mode range (length out) in
       let r = entryOf range (rangeFull limits (range .«by_partitions»)) in
-      anchors-entered x routes sound (view tables area (t .cache) .anchors) 0 (silent r)
-      (record { read = λ i. zeros 8 i 0; expired = λ i. zeros 8 i 0; buffered = λ i. zeros 8 i 0; full = refl })
-      (record { tallied = record { eight = refl; used = refl; roomy = omega arith }; all = refl })
+      anchors-tallied x routes sound (view tables area (t .cache) .anchors) (silent r) (record { eight = refl; used = refl; roomy = omega arith })
+
+  pub steps-fit : routesNumber routes ≡ 0 → six-steps .value .walk .buffers .used ≤ length out
+  steps-fit sound = steps-tallied sound .roomy
 
   pub the-output-holds-26-bytes-for-each-message-buffered : EntriesWritten
   unfolding readCall sumOf
@@ -169,13 +164,19 @@ module _ (tables area : List ℕ) (t : AnchorsCacheTransaction) (shard : ShardId
       go-stored true = refl
       go-stored false = refl
 
-      sound : eqb n 0 ≡ true → routesNumber routes ≡ 0
-      sound e = passed tables area t shard routes limits range (first-zero _ _ (eqb-true n 0 e) .0) .routes-sound
+      asked : eqb n 0 ≡ true → askedNumber tables area t shard routes limits range ≡ 0
+      asked e = first-zero _ _ (eqb-true n 0 e) .0
+
+      all : eqb n 0 ≡ true → six-steps .value .walk .buffers .used ≡ length (six-steps .entries)
+      all e = steps-kept tables area t shard routes limits processed timeout mode range (length out) (asked e) .used-part ∙ (omega arith)
+
+      tallied : eqb n 0 ≡ true → Tallied (contextOf shard limits processed timeout mode range (length out)) (six-steps .value .walk)
+      tallied e = steps-tallied (passed tables area t shard routes limits range (asked e) .routes-sound)
 
       go-long : (c : Bool) → eqb n 0 ≡ c → length (go-entries c) ≡ 26 * sumOf (pick c (doneResult tables t range six-steps out) (record { answer = refusedAnswer n range t; out = out }) .answer .counts .buffered)
-      go-long true e = let h = steps-entered (sound e) in sym (h .all) ∙ h .tallied .used
+      go-long true e = sym (all e) ∙ tallied e .used
       go-long false e = refl
 
       go-fits : (c : Bool) → eqb n 0 ≡ c → length (go-entries c) ≤ length out
-      go-fits true e = let h = steps-entered (sound e) in omega (arith, h .all, h .tallied .roomy)
+      go-fits true e = omega (arith, all e, tallied e .roomy)
       go-fits false e = omega arith

@@ -76,6 +76,8 @@ fn refused(
         number: number,
         last_chain_time: last,
         full: false,
+        pops: 0,
+        used: 0,
         counts: counts,
         range: range,
         state: t,

@@ -322,15 +322,21 @@ range-start x routes tables area write out c r h n = record {
 }
 
 -- ---- the two runs
-module _ (out : List ℕ) (used : ℕ) (all : Outcome RangeRead) where
-  pub refused-run : (o : List ℕ) (q : RangeRead) → Wrote false used out o q all → (q .walk .number ≡ 0 → ⊥) → record { value = q; entries = o } ≡ readOrRefused out used all
+module _ (write : Bool) (out : List ℕ) (used : ℕ) (all : Outcome RangeRead) where
+  pub refused-run : (o : List ℕ) (q : RangeRead) → Wrote false used out o q all → (q .walk .number ≡ 0 → ⊥) → record { value = q; entries = o } ≡ readOrRefused write out used all
   unfolding readOrRefused
   refused-run o q h n =
       let e : (all .value .walk .number ≡ 0 → ⊥) = λ z. n (ap (λ (v : RangeRead). v .walk .number) (h .value) ∙ z) in
       rw (ne-eqb (all .value .walk .number) 0 e, h .value, h .out)
 
-  pub done-run : (o p : List ℕ) (q v : RangeRead) → Wrote false used out o q all → q .walk .number ≡ 0 → Wrote true used o p v all → record { value = v; entries = p } ≡ readOrRefused out used all
-  unfolding readOrRefused
-  done-run o p q v h n g =
-      let e : all .value .walk .number ≡ 0 = ap (λ (v : RangeRead). v .walk .number) (sym (h .value)) ∙ n in
-      rw (eq-eqb (all .value .walk .number) 0 e, g .value, g .out, h .out)
+  module _ (o : List ℕ) (q : RangeRead) (h : Wrote false used out o q all) (n : q .walk .number ≡ 0) where
+    not-refused : all .value .walk .number ≡ 0
+    not-refused = ap (λ (v : RangeRead). v .walk .number) (sym (h .value)) ∙ n
+
+    pub checked-run : write ≡ false → record { value = q; entries = o } ≡ readOrRefused write out used all
+    unfolding readOrRefused
+    checked-run w = rw (eq-eqb (all .value .walk .number) 0 not-refused, w, h .value, h .out)
+
+    pub done-run : (p : List ℕ) (v : RangeRead) → write ≡ true → Wrote true used o p v all → record { value = v; entries = p } ≡ readOrRefused write out used all
+    unfolding readOrRefused
+    done-run p v w g = rw (eq-eqb (all .value .walk .number) 0 not-refused, w, g .value, g .out, h .out)

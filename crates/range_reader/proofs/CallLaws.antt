@@ -1,7 +1,7 @@
 -- The public call, put together from what its parts ensure.
 use Prim.Native.Nat.{ℕ, suc, zero, _-_, _*_, _≤_}
 use mathlib.Core.Path.{_≡_, refl, sym, ap, _∙_}
-use mathlib.Core.Bool.{Bool, _&&_}
+use mathlib.Core.Bool.{Bool, true, false, _&&_}
 use mathlib.Core.List.{List, [], _∷_}
 use native.Mathlib.Omega.{arith}
 use native.Mathlib.Nat.{mul-div-le}
@@ -10,6 +10,7 @@ use lib.ListN.{length, getD, drop, replicate}
 use lib.Seq.{sets}
 use borrow.Author.Tests.{eq-eqb, ne-eqb}
 use Rattle.rows.specs.Rows.{pick}
+use Rattle.rows.proofs.Laws.{pick-yes, pick-no}
 use Rattle.ext_types.specs.declared.Seconds.{Seconds}
 use Rattle.shard_ident.specs.declared.ShardIdent.{ShardIdent}
 use Rattle.messages_buffer.specs.declared.FillState.{FillState}
@@ -29,13 +30,19 @@ use Rattle.range_reader.specs.declared.ProcessedTo.{ProcessedTo}
 use Rattle.range_reader.specs.declared.ReadNextExternalsMode.{ReadNextExternalsMode}
 use Rattle.range_reader.specs.Rules.{Outcome, silent, anchorsRead}
 use Rattle.range_reader.specs.Ready.{RangeReady, readOrRefused}
-use Rattle.range_reader.specs.Calls.{askedNumber, askedState, contextOf, entryOf, refusedAnswer, doneAnswer, rangeRead, readCall}
+use Rattle.range_reader.specs.Calls.{askedNumber, askedState, contextOf, entryOf, refusedAnswer, doneAnswer, rangeRead, ReadResult, readCall, checkCall}
+use Rattle.range_reader.proofs.Counts.{pick-same}
 use Rattle.range_reader.proofs.Numbers.{first-no, first-yes, first-alone, passed}
 
 pub zeros : (n i k : ℕ) → getD (replicate n 0) i 0 ≤ k
 zeros zero i k = omega arith
 zeros (suc n) zero k = omega arith
 zeros (suc n) (suc i) k = zeros n i k
+
+-- a result that is written where `write` is set, and else only told
+told : (write : Bool) (d : ReadResult) (out : List ℕ) (q : ReadExternals) (w o : List ℕ) → record { answer = q; out = w } ≡ d → o ≡ pick write w out → record { answer = q; out = o } ≡ pick write d (record { answer = d .answer; out = out })
+told true d out q w o e g = rw g e
+told false d out q w o e g = rw (g, sym e)
 
 pops-done : (tables area : List ℕ) (t : AnchorsCacheTransaction) (p : Done) (pops : ℕ) → refusal (length area) tables t ≡ 0 → p ≡ popsCall (length area) pops tables t → p .state ≡ withCache t (poppedTimes pops tables (t .cache))
 unfolding popsCall answer
@@ -52,13 +59,20 @@ module _ (tables area : List ℕ) (t : AnchorsCacheTransaction) (shard : ShardId
       ap (λ (s : FillState). s .full) ae
       ∙ ap (λ (b : Bool). b && rangeFull limits (range .«by_partitions»)) (eq-eqb (askedNumber tables area t shard routes limits range) 0 (sym asked-number ∙ z))
 
-  module _ (processed : List ProcessedTo) (timeout : Seconds) (mode : ReadNextExternalsMode) (out : List ℕ) where
-    pub call-asked : (q : ReadExternals) → (a .number ≡ 0 → ⊥) → q ≡ refusedAnswer (a .number) range t → record { answer = q; out = out } ≡ readCall tables area t shard routes limits processed timeout mode range out
+  module _ (processed : List ProcessedTo) (timeout : Seconds) (mode : ReadNextExternalsMode) (write : Bool) (out : List ℕ) where
+    abbrev read : ReadResult
+    read = readCall tables area t shard routes limits processed timeout mode range out
+
+    -- the answer that is written, or only told
+    abbrev Answers : ReadExternals → List ℕ → Type 0
+    Answers q o = record { answer = q; out = o } ≡ pick write read (checkCall tables area t shard routes limits processed timeout mode range out)
+
+    pub call-asked : (q : ReadExternals) → (a .number ≡ 0 → ⊥) → q ≡ refusedAnswer (a .number) range t → Answers q out
     unfolding readCall
     call-asked q h e =
         let n = a .number in
         let f : n ≡ askedNumber tables area t shard routes limits range = asked-number in
-        rw (e, sym f, first-no n _ h, ne-eqb n 0 h)
+        told write read out q out out (rw (e, sym f, first-no n _ h, ne-eqb n 0 h)) (sym (pick-same write out))
 
     module _ (z : a .number ≡ 0) (x : Context) (begin : RangeRead) (xe : x ≡ contextOf shard limits processed timeout mode range (length out)) (be : begin ≡ entryOf range (a .full)) where
       at-entry : begin ≡ entryOf range (rangeFull limits (range .«by_partitions»))
@@ -80,11 +94,11 @@ module _ (tables area : List ℕ) (t : AnchorsCacheTransaction) (shard : ShardId
           })
 
       module _ (r : RangeRead) (o : List ℕ)
-          (h : record { value = r; entries = o } ≡ readOrRefused out (begin .walk .buffers .used) (anchorsRead x routes (withMessages (drop (33 * t .cache .base) area) (anchorsOf tables (t .cache))) (silent begin))) where
+          (h : record { value = r; entries = o } ≡ readOrRefused write out (begin .walk .buffers .used) (anchorsRead x routes (withMessages (drop (33 * t .cache .base) area) (anchorsOf tables (t .cache))) (silent begin))) where
         whole : Outcome RangeRead
         whole = rangeRead tables area t shard routes limits processed timeout mode range (length out)
 
-        both : record { value = r; entries = o } ≡ readOrRefused out 0 whole
+        both : record { value = r; entries = o } ≡ readOrRefused write out 0 whole
         unfolding whole rangeRead view
         both = h ∙ rw (xe, at-entry)
 
@@ -92,7 +106,7 @@ module _ (tables area : List ℕ) (t : AnchorsCacheTransaction) (shard : ShardId
         unfolding readOrRefused
         state = ap (λ (s : Outcome RangeRead). s .value) both
 
-        bytes : o ≡ pick (eqb (whole .value .walk .number) 0) (sets out 0 (whole .entries)) out
+        bytes : o ≡ pick (eqb (whole .value .walk .number) 0) (pick write (sets out 0 (whole .entries)) out) out
         unfolding readOrRefused
         bytes = ap (λ (s : Outcome RangeRead). s .entries) both
 
@@ -102,15 +116,15 @@ module _ (tables area : List ℕ) (t : AnchorsCacheTransaction) (shard : ShardId
         last : firstNo (askedNumber tables area t shard routes limits range ∷ whole .value .walk .number ∷ []) ≡ r .walk .number
         last = first-yes _ _ (sym asked-number ∙ z) ∙ (first-alone (whole .value .walk .number) ∙ sym number)
 
-        pub call-refused : (q : ReadExternals) → (r .walk .number ≡ 0 → ⊥) → q ≡ refusedAnswer (r .walk .number) range t → record { answer = q; out = o } ≡ readCall tables area t shard routes limits processed timeout mode range out
+        pub call-refused : (q : ReadExternals) → (r .walk .number ≡ 0 → ⊥) → q ≡ refusedAnswer (r .walk .number) range t → Answers q o
         unfolding readCall whole
         call-refused q n e =
             let w : (whole .value .walk .number ≡ 0 → ⊥) = λ y. n (number ∙ y) in
-            let b : o ≡ out = bytes ∙ ap (λ (c : Bool). pick c (sets out 0 (whole .entries)) out) (ne-eqb (whole .value .walk .number) 0 w) in
-            rw (last, ne-eqb (r .walk .number) 0 n, e, b)
+            told write read out q out o (rw (last, ne-eqb (r .walk .number) 0 n, e)) (bytes ∙ (pick-no _ _ _ (ne-eqb (whole .value .walk .number) 0 w) ∙ sym (pick-same write out)))
 
-        pub call-done : (p : Done) (q : ReadExternals) → r .walk .number ≡ 0 → p ≡ popsCall (length area) (r .pops) tables t → q ≡ doneAnswer range r (p .state) → record { answer = q; out = o } ≡ readCall tables area t shard routes limits processed timeout mode range out
+        pub call-done : (p : Done) (q : ReadExternals) → r .walk .number ≡ 0 → p ≡ popsCall (length area) (r .pops) tables t → q ≡ doneAnswer range r (p .state) → Answers q o
         unfolding readCall whole
         call-done p q n pe e =
-            let b : o ≡ sets out 0 (whole .entries) = bytes ∙ ap (λ (c : Bool). pick c (sets out 0 (whole .entries)) out) (eq-eqb (whole .value .walk .number) 0 (sym number ∙ n)) in
-            rw (last, eq-eqb (r .walk .number) 0 n, e, b, pops-done tables area t p (r .pops) (passed tables area t shard routes limits range (sym asked-number ∙ z) .cache-sound) pe, state)
+            told write read out q (sets out 0 (whole .entries)) o
+            (rw (last, eq-eqb (r .walk .number) 0 n, e, pops-done tables area t p (r .pops) (passed tables area t shard routes limits range (sym asked-number ∙ z) .cache-sound) pe, state))
+            (bytes ∙ pick-yes _ _ _ (eq-eqb (whole .value .walk .number) 0 (sym number ∙ n)))

@@ -85,7 +85,7 @@ entryOf range full =
 
 -- a refusal gives only the number
 abbrev pub refusedAnswer : ℕ → ExternalsRangeReaderState → AnchorsCacheTransaction → ReadExternals
-refusedAnswer number range t = record { number = number; «last_chain_time» = Nothing; full = false; counts = noCounts; range = range; state = t }
+refusedAnswer number range t = record { number = number; «last_chain_time» = Nothing; full = false; pops = 0; used = 0; counts = noCounts; range = range; state = t }
 
 abbrev pub doneAnswer : ExternalsRangeReaderState → RangeRead → AnchorsCacheTransaction → ReadExternals
 doneAnswer range r t =
@@ -93,6 +93,8 @@ doneAnswer range r t =
       number = 0;
       «last_chain_time» = r .last;
       full = r .walk .buffers .full;
+      pops = r .pops;
+      used = r .walk .buffers .used;
       counts = r .walk .counts;
       range = record {
         seqno = range .seqno;
@@ -133,3 +135,7 @@ readCall tables area t shard routes limits processed timeout mode range out =
     range
     (rangeRead tables area t shard routes limits processed timeout mode range (length out))
     out
+
+-- what the read would answer; nothing is written
+abbrev pub checkCall : List ℕ → List ℕ → AnchorsCacheTransaction → ShardIdent → List ℕ → List ℕ → List ProcessedTo → Seconds → ReadNextExternalsMode → ExternalsRangeReaderState → List ℕ → ReadResult
+checkCall tables area t shard routes limits processed timeout mode range out = record { answer = readCall tables area t shard routes limits processed timeout mode range out .answer; out = out }

@@ -59,6 +59,6 @@ pub record RangeReady (tables area : List ℕ) (c : AnchorsCache) (routes : List
   pub few : Few x (total (anchorsOf tables c)) (r .walk)
   pub pops : r .pops ≡ 0
 
--- a refused read leaves the output as it is
-unfoldable pub readOrRefused : List ℕ → ℕ → Outcome RangeRead → Outcome RangeRead
-readOrRefused out used s = record { value = s .value; entries = pick (eqb (s .value .walk .number) 0) (sets out used (s .entries)) out }
+-- a refused read leaves the output as it is, and so does one that does not write
+unfoldable pub readOrRefused : Bool → List ℕ → ℕ → Outcome RangeRead → Outcome RangeRead
+readOrRefused write out used s = record { value = s .value; entries = pick (eqb (s .value .walk .number) 0) (pick write (sets out used (s .entries)) out) out }

@@ -248,7 +248,7 @@ fn anchors_read(
     }
 }
 
-// First without writing; where that is not refused, once more with writing.
+// First without writing; where that is not refused and `write` is set, once more with writing.
 pub(crate) fn read_or_refuse(
     tables: &[u8],
     area: &[u8],
@@ -256,14 +256,18 @@ pub(crate) fn read_or_refuse(
     routes: &[u8],
     x: Context,
     begin: RangeRead,
+    write: bool,
     out: &mut [u8],
 ) -> RangeRead
     requires { ⌜ RangeReady (now tables) (now area) c (now routes) x begin (now out) ⌝ }
-    ensures { λ q. ⌜ record { value = q; entries = now (out .exit) } ≡ readOrRefused (now (out .entry)) (begin .walk .buffers .used) (anchorsRead x (now (routes .entry)) (withMessages (drop (33 * c .base) (now (area .entry))) (anchorsOf (now (tables .entry)) c)) (record { value = begin; entries = [] })) ⌝ }
+    ensures { λ q. ⌜ record { value = q; entries = now (out .exit) } ≡ readOrRefused write (now (out .entry)) (begin .walk .buffers .used) (anchorsRead x (now (routes .entry)) (withMessages (drop (33 * c .base) (now (area .entry))) (anchorsOf (now (tables .entry)) c)) (record { value = begin; entries = [] })) ⌝ }
 {
     let dry = anchors_read(tables, area, c, routes, x, begin, false, &mut *out);
     let w = dry.walk;
     if w.number != 0 {
+        return dry;
+    }
+    if !write {
         return dry;
     }
     anchors_read(tables, area, c, routes, x, begin, true, out)

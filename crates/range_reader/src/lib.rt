@@ -1,7 +1,8 @@
 // One range's read of externals: document 01's six steps over the cached anchors.
 // A refused read answers the number and leaves transaction, range and every output byte as at entry.
 ghost use mathlib.Core.Path.{_≡_};
-ghost use Rattle.range_reader.specs.Calls.{readCall, contextOf, entryOf, refusedAnswer, doneAnswer};
+ghost use Rattle.rows.specs.Rows.{pick};
+ghost use Rattle.range_reader.specs.Calls.{readCall, checkCall, contextOf, entryOf, refusedAnswer, doneAnswer};
 use anchors_cache::AnchorsCacheTransaction;
 use ext_types::ChainTime;
 use ext_types::ExternalKey;
@@ -51,10 +52,13 @@ pub struct ReadCounts {
     pub buffered: [u32; 8],
 }
 
+// `pops` anchors went from the cache; the entries take the first `used` bytes of the output.
 pub struct ReadExternals {
     pub number: u8,
     pub last_chain_time: LastChainTime,
     pub full: bool,
+    pub pops: usize,
+    pub used: usize,
     pub counts: ReadCounts,
     pub range: ExternalsRangeReaderState,
     pub state: AnchorsCacheTransaction,
@@ -202,6 +206,8 @@ fn refused_answer(
         number: number,
         last_chain_time: last,
         full: false,
+        pops: 0,
+        used: 0,
         counts: counts,
         range: range,
         state: t,
@@ -238,10 +244,46 @@ fn done_answer(
         number: 0,
         last_chain_time: last,
         full: buffers.full,
+        pops: r.pops,
+        used: buffers.used,
         counts: counts,
         range: after,
         state: t,
     }
+}
+
+// The answer of a read, which is written where `write` is set.
+fn read_or_check(
+    tables: &[u8],
+    area: &[u8],
+    t: AnchorsCacheTransaction,
+    shard: ShardIdent,
+    routes: &[u8],
+    limits: [u16; 8],
+    processed: [ProcessedTo; 8],
+    timeout: Seconds,
+    mode: ReadNextExternalsMode,
+    range: ExternalsRangeReaderState,
+    write: bool,
+    out: &mut [u8],
+) -> ReadExternals
+    ensures { λ r. ⌜ record { answer = r; out = now (out .exit) } ≡ pick write (readCall (now (tables .entry)) (now (area .entry)) t shard (now (routes .entry)) limits processed timeout mode range (now (out .entry))) (checkCall (now (tables .entry)) (now (area .entry)) t shard (now (routes .entry)) limits processed timeout mode range (now (out .entry))) ⌝ }
+{
+    let asked = questions::asked(tables, area, t, shard, routes, limits, range);
+    if asked.number != 0 {
+        return refused_answer(asked.number, range, t);
+    }
+    let x = context_of(shard, limits, processed, timeout, mode, range, out.len());
+    let start = at_entry(range, asked.full);
+    let cache = t.cache;
+    let r = anchors::read_or_refuse(tables, area, cache, routes, x, start, write, &mut *out);
+    let w = r.walk;
+    if w.number != 0 {
+        return refused_answer(w.number, range, t);
+    }
+    let popped = anchors_cache::pop_fronts(tables, area, t, r.pops);
+    let state = popped.state;
+    done_answer(range, r, state)
 }
 
 // One range's read. It runs twice: the first run writes nothing and decides the number, so that a refusal met half-way leaves the output as it is.
@@ -260,19 +302,50 @@ pub fn read_externals_into_buffers(
 ) -> ReadExternals
     ensures { λ r. ⌜ record { answer = r; out = now (out .exit) } ≡ readCall (now (tables .entry)) (now (area .entry)) t shard (now (routes .entry)) limits processed timeout mode range (now (out .entry)) ⌝ }
 {
-    let asked = questions::asked(tables, area, t, shard, routes, limits, range);
-    if asked.number != 0 {
-        return refused_answer(asked.number, range, t);
-    }
-    let x = context_of(shard, limits, processed, timeout, mode, range, out.len());
-    let start = at_entry(range, asked.full);
-    let cache = t.cache;
-    let r = anchors::read_or_refuse(tables, area, cache, routes, x, start, &mut *out);
-    let w = r.walk;
-    if w.number != 0 {
-        return refused_answer(w.number, range, t);
-    }
-    let popped = anchors_cache::pop_fronts(tables, area, t, r.pops);
-    let state = popped.state;
-    done_answer(range, r, state)
+    read_or_check(
+        tables,
+        area,
+        t,
+        shard,
+        routes,
+        limits,
+        processed,
+        timeout,
+        mode,
+        range,
+        true,
+        out,
+    )
+}
+
+// What the read would answer; nothing is written.
+pub fn check_read_externals(
+    tables: &[u8],
+    area: &[u8],
+    t: AnchorsCacheTransaction,
+    shard: ShardIdent,
+    routes: &[u8],
+    limits: [u16; 8],
+    processed: [ProcessedTo; 8],
+    timeout: Seconds,
+    mode: ReadNextExternalsMode,
+    range: ExternalsRangeReaderState,
+    out: &mut [u8],
+) -> ReadExternals
+    ensures { λ r. ⌜ record { answer = r; out = now (out .exit) } ≡ checkCall (now (tables .entry)) (now (area .entry)) t shard (now (routes .entry)) limits processed timeout mode range (now (out .entry)) ⌝ }
+{
+    read_or_check(
+        tables,
+        area,
+        t,
+        shard,
+        routes,
+        limits,
+        processed,
+        timeout,
+        mode,
+        range,
+        false,
+        out,
+    )
 }

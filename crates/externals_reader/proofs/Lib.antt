@@ -1,0 +1,5 @@
+pub mod Each
+pub mod Sound
+pub mod Laws
+pub mod TurnLaws
+pub mod CallLaws

@@ -1,0 +1,53 @@
+use Rattle.externals_reader.proofs.Laws.{no-next-refused, no-next-unread, no-next-refill, no-next-settings, no-next-limit, next-by-seqno}
+use Rattle.externals_reader.specs.Rules.{continues}
+use Prim.Native.Nat.{_-_}
+use mathlib.Core.Path.{ap}
+use borrow.Author.Tests.{not-true, not-false}
+use borrow.Author.Needs.{needs}
+use Rattle.externals_reader.proofs.next.wants_next.Statement.{statement}
+use Rattle.externals_reader.proofs.next.wants_next.Tie as tie
+
+returns : tie.Need-returns
+returns c = no-next-refused _ _ (c .if1 .taken)
+
+returns-2 : tie.Need-returns-2
+returns-2 c = no-next-unread _ _ (not-true _ (c .if2 .taken))
+
+enum-told : tie.Need-enum-told
+enum-told c = search needs
+
+returns-3 : tie.Need-returns-3
+returns-3 c = no-next-refill _ _ (ap continues (c .enum-told .given .1))
+
+enum-told-2 : tie.Need-enum-told-2
+enum-told-2 c = search needs
+
+returns-4 : tie.Need-returns-4
+returns-4 c = no-next-settings _ _ (c .if3 .taken)
+
+open-ranges-limit-requires : tie.Need-open-ranges-limit-requires
+open-ranges-limit-requires c κs = search needs
+
+returns-5 : tie.Need-returns-5
+returns-5 c = no-next-limit _ _ _ (c .before .before .open-ranges-limit .ensures) (c .if4 .taken)
+
+last-seqno-requires : tie.Need-last-seqno-requires
+last-seqno-requires c κs = search needs
+
+returns-6 : tie.Need-returns-6
+returns-6 c = next-by-seqno _ _ (c .before .before .before .before .before .before .before .before .before .before .before .before .if1 .left) (not-false _ (c .before .before .before .before .before .before .before .before .before .before .if2 .left)) (ap continues (c .before .before .before .before .before .before .before .before .enum-told2 .given .1)) (c .before .before .before .before .before .before .if3 .left) _ (c .before .before .before .before .before .open-ranges-limit .ensures) (c .before .before .before .if4 .left) _ (c .before .last-seqno .ensures)
+
+pub wants-next-spec : {M : Type 1} → statement M
+wants-next-spec =
+    tie.close
+    (tie.spec
+    returns
+    returns-2
+    enum-told
+    returns-3
+    enum-told-2
+    returns-4
+    open-ranges-limit-requires
+    returns-5
+    last-seqno-requires
+    returns-6)

@@ -1,0 +1,13 @@
+use Prim.Native.Nat.{_-_}
+use borrow.Author.Needs.{needs}
+use Rattle.externals_reader.proofs.turns.at_entry.Statement.{statement}
+use Rattle.externals_reader.proofs.turns.at_entry.Tie as tie
+
+no-counts-requires : tie.Need-no-counts-requires
+no-counts-requires c κs = search needs
+
+returns : tie.Need-returns
+returns c = rw (c .no-counts .ensures)
+
+pub at-entry-spec : {M : Type 1} → statement M
+at-entry-spec = tie.close (tie.spec no-counts-requires returns)

@@ -1,0 +1,156 @@
+// The next range.
+ghost use Prim.Native.Nat.{_≤_};
+ghost use mathlib.Core.Path.{_≡_};
+ghost use mathlib.Core.List.{map};
+ghost use lib.ListN.{replicate};
+ghost use Rattle.messages_buffer.specs.Fullness.{noPartition};
+ghost use Rattle.range_reader.specs.Rules.{noKey};
+ghost use Rattle.externals_reader.specs.Rules.{lastOr, nextPartition, rangeFrom, nextRange, wantsNext};
+use crate::ExternalsPartitionReaderState;
+use crate::Fixed;
+use crate::GetNextMessageGroupMode;
+use crate::RangesRead;
+use ext_types::ChainTime;
+use ext_types::ExternalKey;
+use messages_buffer::ExternalsPartitionRangeReaderState;
+use range_reader::ExternalsRangeReaderState;
+
+// A partition of a new range: an empty buffer, both offsets at the current one.
+fn next_partition(p: ExternalsPartitionReaderState) -> ExternalsPartitionRangeReaderState
+    ensures { λ r. ⌜ r ≡ nextPartition p ⌝ }
+{
+    ExternalsPartitionRangeReaderState {
+        count: 0,
+        skip_offset: p.curr_processed_offset,
+        processed_offset: p.curr_processed_offset,
+        present: p.present,
+    }
+}
+
+fn no_partition() -> ExternalsPartitionRangeReaderState
+    ensures { λ r. ⌜ r ≡ noPartition ⌝ }
+{
+    ExternalsPartitionRangeReaderState {
+        count: 0,
+        skip_offset: 0,
+        processed_offset: 0,
+        present: false,
+    }
+}
+
+fn next_partitions(
+    parts: [ExternalsPartitionReaderState; 8],
+) -> [ExternalsPartitionRangeReaderState; 8]
+    ensures { λ r. ⌜ r ≡ map nextPartition parts ⌝ }
+{
+    let mut r = [no_partition(); 8];
+    let mut i = 0;
+    while i < 8 {
+        let p = parts[i];
+        r[i] = next_partition(p);
+        i += 1;
+    }
+    r
+}
+
+fn last_to(ranges: [ExternalsRangeReaderState; 16], len: usize) -> ExternalKey
+    requires { ⌜ len ≤ 16 ⌝ }
+    ensures { λ r. ⌜ r ≡ lastOr noKey (λ q. q .to) len ranges ⌝ }
+{
+    if len == 0 {
+        return ExternalKey {
+            anchor_id: 0,
+            msgs_offset: 0,
+        };
+    }
+    let i = len - 1;
+    let last = ranges[i];
+    last.to
+}
+
+fn range_from(
+    seqno: u32,
+    from: ExternalKey,
+    time: ChainTime,
+    parts: [ExternalsPartitionRangeReaderState; 8],
+) -> ExternalsRangeReaderState
+    ensures { λ r. ⌜ r ≡ rangeFrom seqno from time parts ⌝ }
+{
+    ExternalsRangeReaderState {
+        seqno: seqno,
+        from: from,
+        to: from,
+        current_position: from,
+        chain_time: time,
+        fully_read: false,
+        by_partitions: parts,
+    }
+}
+
+pub(crate) fn no_range() -> ExternalsRangeReaderState
+    ensures { λ r. ⌜ r ≡ rangeFrom 0 noKey (record { 0 = 0 }) (replicate 8 noPartition) ⌝ }
+{
+    let from = ExternalKey {
+        anchor_id: 0,
+        msgs_offset: 0,
+    };
+    let parts = [no_partition(); 8];
+    range_from(0, from, ChainTime(0), parts)
+}
+
+pub(crate) fn next_range(
+    seqno: u32,
+    time: ChainTime,
+    parts: [ExternalsPartitionReaderState; 8],
+    ranges: [ExternalsRangeReaderState; 16],
+    len: usize,
+) -> ExternalsRangeReaderState
+    requires { ⌜ len ≤ 16 ⌝ }
+    ensures { λ r. ⌜ r ≡ nextRange seqno time parts ranges len ⌝ }
+{
+    let from = last_to(ranges, len);
+    let fresh = next_partitions(parts);
+    range_from(seqno, from, time, fresh)
+}
+
+fn last_seqno(ranges: [ExternalsRangeReaderState; 16], len: usize) -> u32
+    requires { ⌜ len ≤ 16 ⌝ }
+    ensures { λ r. ⌜ r ≡ lastOr 0 (λ q. q .seqno) len ranges ⌝ }
+{
+    if len == 0 {
+        return 0;
+    }
+    let i = len - 1;
+    let last = ranges[i];
+    last.seqno
+}
+
+// Whether a range is appended: all are fully read, and nothing forbids it.
+pub(crate) fn wants_next(x: Fixed, r: RangesRead) -> bool
+    requires { ⌜ r .len ≤ 16 ⌝ }
+    ensures { λ q. ⌜ q ≡ wantsNext x r ⌝ }
+{
+    if r.number != 0 {
+        return false;
+    }
+    if !r.all_read {
+        return false;
+    }
+    let mode = x.mode;
+    match mode {
+        GetNextMessageGroupMode::Refill => {
+            return false;
+        }
+        GetNextMessageGroupMode::Continue => {}
+    }
+    let params = x.params;
+    if params.new_is_some {
+        return false;
+    }
+    let limit = crate::open_ranges_limit(params);
+    if limit <= r.len {
+        return false;
+    }
+    let ranges = r.ranges;
+    last_seqno(ranges, r.len) < x.block_seqno
+}

@@ -1,0 +1,104 @@
+// Document 01's questions of a reader and of a read of all ranges.
+ghost use Prim.Native.Nat.{_≤_};
+ghost use mathlib.Core.Path.{_≡_};
+ghost use lib.ListN.{take};
+ghost use Rattle.externals_reader.specs.State.{rangeSound, soundFrom};
+ghost use Rattle.externals_reader.specs.Calls.{settledNumber, readerNumber, askedOfRead};
+use crate::ExternalsReader;
+use anchors_cache::AnchorsCacheTransaction;
+use range_reader::ExternalsRangeReaderState;
+
+const AREA_BYTES: usize = 33792;
+
+// A seqno not below `low`, and counts within the cap.
+fn is_sound(low: u64, range: ExternalsRangeReaderState) -> bool
+    ensures { λ r. ⌜ r ≡ rangeSound low range ⌝ }
+{
+    let seqno = range.seqno as u64;
+    if seqno < low {
+        return false;
+    }
+    let partitions = range.by_partitions;
+    let of_partitions = messages_buffer::check_partitions(partitions);
+    of_partitions == 0
+}
+
+pub(crate) fn sound_ranges(ranges: [ExternalsRangeReaderState; 16], len: usize) -> bool
+    requires { ⌜ len ≤ 16 ⌝ }
+    ensures { λ r. ⌜ r ≡ soundFrom 0 (take len ranges) ⌝ }
+{
+    let mut low = 0;
+    let mut at = 0;
+    let mut left = len;
+    while 0 < left {
+        let r = ranges[at];
+        if !is_sound(low, r) {
+            return false;
+        }
+        low = r.seqno as u64 + 1;
+        at += 1;
+        left -= 1;
+    }
+    true
+}
+
+// Questions 4 and 5.
+fn asked_of_settings(reader: ExternalsReader) -> u8
+    ensures { λ r. ⌜ r ≡ settledNumber reader ⌝ }
+{
+    let limits = reader.buffer_limits_by_partitions;
+    let params = reader.msgs_exec_params;
+    let of_settings = crate::check_settings(limits, params.open_ranges_limit);
+    if of_settings != 0 {
+        return of_settings;
+    }
+    crate::check_state(reader.reader_state)
+}
+
+// Questions 2, 4 and 5.
+pub(crate) fn asked_of_reader(reader: ExternalsReader) -> u8
+    ensures { λ r. ⌜ r ≡ readerNumber reader ⌝ }
+{
+    let shard = reader.for_shard_id;
+    let of_shard = shard_ident::check_shard(shard);
+    if of_shard != 0 {
+        return of_shard;
+    }
+    asked_of_settings(reader)
+}
+
+// Questions 1, 2, 3, 4, 5 and 9 of a read.
+pub(crate) fn asked_of_read(
+    tables: &[u8],
+    area: &[u8],
+    t: AnchorsCacheTransaction,
+    routes: &[u8],
+    reader: ExternalsReader,
+) -> u8
+    ensures { λ r. ⌜ r ≡ askedOfRead (now (tables .entry)) (now (area .entry)) t (now (routes .entry)) reader ⌝ }
+{
+    if area.len() < AREA_BYTES {
+        return 1;
+    }
+    let shard = reader.for_shard_id;
+    let of_shard = shard_ident::check_shard(shard);
+    if of_shard != 0 {
+        return of_shard;
+    }
+    let of_routes = router::check_routes(routes);
+    if of_routes != 0 {
+        return of_routes;
+    }
+    let of_settings = asked_of_settings(reader);
+    if of_settings != 0 {
+        return of_settings;
+    }
+    let of_cache = anchors_cache::check_cache(tables, area, t);
+    if of_cache != 0 {
+        return of_cache;
+    }
+    if !t.active {
+        return 9;
+    }
+    0
+}

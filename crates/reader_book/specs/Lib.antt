@@ -1,0 +1,2 @@
+pub mod AllRanges
+pub mod Steps
