@@ -31,7 +31,7 @@ use Rattle.anchors_cache.specs.declared.FoundAnchor.the-variants as anch
 use Rattle.anchors_cache.specs.declared.FoundInfo.the-variants as info
 use Rattle.anchors_cache.specs.declared.FoundId.the-variants as id
 use Rattle.anchors_cache.specs.Rules.{Info, Row, lastOf, infoAtCt, soundRow, soundFrom, total, sameBool, pendingUpTo, rightSize, aboveLast, room, ask, maxAnchors, maxAnchorMessages, maxHistory, maxMessages}
-use Rattle.anchors_cache.specs.Tables.{tablesBytes, anchorsOf, historyOf, anchorAt}
+use Rattle.anchors_cache.specs.Tables.{tablesBytes, anchorsOf, historyOf, anchorAt, infoAt}
 use Rattle.anchors_cache.specs.Windows.{poppedCache, poppedTimes, trimmedCache, noCache, addedCache, usedBy}
 
 -- ---- questions 1, 5 and 9
@@ -118,6 +118,13 @@ anchorAuthor (a ∷ l) = a .author
 
 abbrev pub anchorInfo : Info → AnchorInfo
 anchorInfo i = record { id = i .id; ct = timeOf (i .time); «all_exts_count» = i .all; «our_exts_count» = i .ours }
+
+abbrev pub noInfo : Info
+noInfo = record { id = 0; time = 0; all = 0; ours = 0; author = [] }
+
+-- one row of the history
+unfoldable pub infoRowAt : ℕ → List ℕ → AnchorInfo
+infoRowAt i tables = pick (ltb i maxHistory && leb tablesBytes (length tables)) (anchorInfo (infoAt i tables)) (anchorInfo noInfo)
 
 abbrev pub infoFound : Option Info → FoundInfo
 infoFound none = info.Nothing

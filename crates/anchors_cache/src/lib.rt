@@ -7,7 +7,7 @@ ghost use Rattle.rows.specs.Rows.{pick};
 ghost use Rattle.anchors_cache.specs.Rules.{lastOf};
 ghost use Rattle.anchors_cache.specs.Tables.{anchors, infos};
 ghost use Rattle.anchors_cache.specs.Windows.{addedTables, addedArea};
-ghost use Rattle.anchors_cache.specs.Calls.{onZero, rowFor, addNumber, addCall, refusal, rowAt, popCall, popsCall, trimCall, clearCall, openCall, commitCall, rollbackCall, closeCall, lastInfoCall, infoAtCtCall, lastIdCall, getCall, pendingCall, pendingInRangeCall, shownInfo, shownAnchor, closedTransaction};
+ghost use Rattle.anchors_cache.specs.Calls.{onZero, rowFor, addNumber, addCall, refusal, rowAt, infoRowAt, popCall, popsCall, trimCall, clearCall, openCall, commitCall, rollbackCall, closeCall, lastInfoCall, infoAtCtCall, lastIdCall, getCall, pendingCall, pendingInRangeCall, shownInfo, shownAnchor, closedTransaction};
 use ext_types::ChainTime;
 use ext_types::ExternalKey;
 
@@ -151,7 +151,7 @@ pub fn check_cache(tables: &[u8], area: &[u8], t: AnchorsCacheTransaction) -> u8
 pub fn cached_row(tables: &[u8], i: usize, place: usize) -> CachedAnchor
     ensures { λ r. ⌜ r ≡ rowAt i place (now (tables .entry)) ⌝ }
 {
-    if tables::has_row(tables, i) {
+    if tables::has_row(tables, i, 32) {
         return tables::anchor_at(tables, i, place);
     }
     CachedAnchor {
@@ -160,6 +160,21 @@ pub fn cached_row(tables: &[u8], i: usize, place: usize) -> CachedAnchor
         ours: 0,
         count: 0,
         place: place,
+    }
+}
+
+// One row of the history; past the table every number is 0.
+pub fn history_row(tables: &[u8], i: usize) -> AnchorInfo
+    ensures { λ r. ⌜ r ≡ infoRowAt i (now (tables .entry)) ⌝ }
+{
+    if tables::has_row(tables, i, 256) {
+        return tables::info_at(tables, i);
+    }
+    AnchorInfo {
+        id: 0,
+        ct: ChainTime(0),
+        all_exts_count: 0,
+        our_exts_count: 0,
     }
 }
 

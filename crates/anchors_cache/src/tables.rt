@@ -20,11 +20,11 @@ pub(crate) const HISTORY_BYTES: usize = 13312;
 
 pub(crate) const ANCHOR_BYTES: usize = 1600;
 
-// Whether the tables have an anchor's row at an index.
-pub(crate) fn has_row(tables: &[u8], i: usize) -> bool
-    ensures { λ r. ⌜ r ≡ (ltb i 32 && leb 14912 (length (now (tables .entry)))) ⌝ }
+// Whether a table of `cap` rows has one at an index.
+pub(crate) fn has_row(tables: &[u8], i: usize, cap: usize) -> bool
+    ensures { λ r. ⌜ r ≡ (ltb i cap && leb 14912 (length (now (tables .entry)))) ⌝ }
 {
-    if 32 <= i {
+    if cap <= i {
         return false;
     }
     TABLES_BYTES <= tables.len()

@@ -1,5 +1,5 @@
 -- The claim about any list of calls between an open and a close that answer 0: numbers and final cache are the book's.
-use Prim.Native.Nat.{ℕ, zero, suc, _*_, _/_, _^_, _≤_, _<_}
+use Prim.Native.Nat.{ℕ, zero, suc, _*_, _/_, _≤_, _<_}
 use mathlib.Core.Path.{_≡_, refl, sym, ap, _∙_}
 use mathlib.Core.Bool.{Bool, true, false, not}
 use mathlib.Core.List.{List, [], _∷_, map}
@@ -102,7 +102,7 @@ on-self : {A : Type 0} (k : ℕ) (x : A) → onZero k x x ≡ x
 on-self zero x = refl
 on-self (suc k) x = refl
 
-module _ (tables area : List ℕ) (big : areaBytes ≤ length area) (fits : length area < 2 ^ 64) where
+module _ (tables area : List ℕ) (big : areaBytes ≤ length area) where
   abbrev places : ℕ
   places = placesIn (length area)
 
@@ -149,7 +149,7 @@ module _ (tables area : List ℕ) (big : areaBytes ≤ length area) (fits : leng
   step-reads : (a : Area) (r : Reading) (t : AnchorsCacheTransaction) (b : Book) → Stands tables area t b → Entered (reads a r) b (perform tables area (reads a r) t)
   unfolding Entered numberOf enter answer
   step-reads same r t b s =
-      let e = r .agrees tables area t (s .is-open) big fits (whole places tables (t .cache) (s .now-ok)) (whole places tables (t .undo) (s .then-ok)) in
+      let e = r .agrees tables area t (s .is-open) big (whole places tables (t .cache) (s .now-ok)) (whole places tables (t .undo) (s .then-ok)) in
       let n : r .number area (view tables area (t .cache)) (view tables area (t .undo)) ≡ r .number area (b .present) (b .opening) = rw (s .present, s .opening) in
       let m : r .pops area (view tables area (t .cache)) ≡ r .pops area (b .present) = ap (r .pops area) (s .present) in
       let k = r .pops area (b .present) in
@@ -250,20 +250,20 @@ open-asked n tables t e = go (refusal n tables t) refl
     go zero h = refl
     go (suc m) h = sym h ∙ (sym (at-refused n tables t false (λ (f : refusal n tables t ≡ 0). omega arith)) ∙ e)
 
--- Any cache and area (no slice has 2 ^ 64 bytes) for which the questions give open the number 0, any list of calls, then a close with the area of the run:
+-- Any cache and area for which the questions give open the number 0, any list of calls, then a close with the area of the run:
 -- each number is the book's, the close answers 0, and the cache is the book's.
-pub the-book : (tables area : List ℕ) → length area < 2 ^ 64 → (t : AnchorsCacheTransaction) (ks : List Call) → openCall (length area) tables t .number ≡ 0
+pub the-book : (tables area : List ℕ) (t : AnchorsCacheTransaction) (ks : List Call) → openCall (length area) tables t .number ≡ 0
     → let u = openCall (length area) tables t .state in
     let d = closeCall (length area) tables (performed tables area ks u) in
     let b = begin (view tables area (t .cache)) in
     (numbers tables area ks u ≡ bookNumbers area ks b) × (d .number ≡ 0) × (view tables area (d .state .cache) ≡ finish (entered area ks b))
 unfolding openCall answer
-the-book tables area fits t ks e =
+the-book tables area t ks e =
     let z = open-asked (length area) tables t e in
     let big = refusal-zero (length area) tables t z .0 in
     let b = begin (view tables area (t .cache)) in
-    let p = steps tables area big fits ks (openCall (length area) tables t .state) b (opened tables area t z e) in
-    let q = closed tables area big fits (performed tables area ks (openCall (length area) tables t .state)) (entered area ks b) (p .1) in
+    let p = steps tables area big ks (openCall (length area) tables t .state) b (opened tables area t z e) in
+    let q = closed tables area big (performed tables area ks (openCall (length area) tables t .state)) (entered area ks b) (p .1) in
     (p .0, q .0, q .1)
 
 -- The tables are one list for the whole run: an add in it is refused, and its contract writes tables and area only on number 0.

@@ -1,5 +1,5 @@
 -- What the claim says of an abandoned attempt and of a committed one, and `pop_fronts` as a call that reads.
-use Prim.Native.Nat.{ℕ, zero, suc, _^_, _<_}
+use Prim.Native.Nat.{ℕ, zero, suc}
 use mathlib.Core.Path.{_≡_, refl, sym, ap, _∙_}
 use mathlib.Core.Bool.{Bool, true, false, _&&_, _||_}
 use mathlib.Core.List.{List, [], _∷_, _++_}
@@ -95,7 +95,7 @@ module _ (area : List ℕ) where
       let l = stepsNow area (numberOf area k b) k (b .present) done in
       present-after ks c l (present-now (numberOf area k b) k b done e ∙ ap (applied l) (sym o)) ∙ ap (applied (sinceRollback area ks c l)) o
 
-module _ (tables area : List ℕ) (fits : length area < 2 ^ 64) (t : AnchorsCacheTransaction) (ks : List Call) (zero-open : openCall (length area) tables t .number ≡ 0) where
+module _ (tables area : List ℕ) (t : AnchorsCacheTransaction) (ks : List Call) (zero-open : openCall (length area) tables t .number ≡ 0) where
   abbrev final : Cache
   final = view tables area (closeCall (length area) tables (performed tables area ks (openCall (length area) tables t .state)) .state .cache)
 
@@ -105,14 +105,14 @@ module _ (tables area : List ℕ) (fits : length area < 2 ^ 64) (t : AnchorsCach
   -- with no commit answering 0 the cache is as at opening
   pub an-abandoned-attempt-leaves-the-cache : committedIn area ks start ≡ false → final ≡ view tables area (t .cache)
   an-abandoned-attempt-leaves-the-cache e =
-      the-book tables area fits t ks zero-open .2
+      the-book tables area t ks zero-open .2
       ∙ (ap (λ (m : Bool). pick m (entered area ks start .present) (entered area ks start .opening)) (mark-after area ks start ∙ e) ∙ opening-kept area ks start)
 
   -- with one, anywhere, it is what the pops and trims after the last rollback answering 0 give on the opening cache
   pub a-committed-attempt-keeps-the-steps-since-the-last-rollback : committedIn area ks start ≡ true → final ≡ applied (sinceRollback area ks start []) (view tables area (t .cache))
   unfolding applied
   a-committed-attempt-keeps-the-steps-since-the-last-rollback e =
-      the-book tables area fits t ks zero-open .2
+      the-book tables area t ks zero-open .2
       ∙ (ap (λ (m : Bool). pick m (entered area ks start .present) (entered area ks start .opening)) (mark-after area ks start ∙ e) ∙ present-after area ks start [] refl)
 
 -- ---- `pop_fronts`
@@ -124,7 +124,7 @@ pop-fronts count =
       pops = λ area present. count;
       on-window = λ tables area t. popsCall (length area) count tables t;
       agrees =
-          λ tables area t active big fits now then.
+          λ tables area t active big now then.
           let n = placesIn (length area) in
           let p = parts n tables (t .cache) now in
           let q = parts n tables (t .undo) then in

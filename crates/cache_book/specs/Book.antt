@@ -1,5 +1,5 @@
 -- Document 01's book: a transaction as an opening and a present cache and a mark, fed the calls and what each is handed beside cache and transaction.
-use Prim.Native.Nat.{ℕ, zero, suc, _/_, _^_, _≤_, _<_}
+use Prim.Native.Nat.{ℕ, zero, suc, _/_, _≤_, _<_}
 use mathlib.Core.Path.{_≡_}
 use mathlib.Core.Bool.{Bool, true, false, _&&_, _||_}
 use mathlib.Core.List.{List, [], _∷_, _++_, map}
@@ -59,13 +59,13 @@ lent area same = area
 lent area (short bytes p) = bytes
 
 -- A call that reads: whatever else it is handed, its number comes from the area and the book's caches, and it changes the cache by pops alone.
--- `on-window` is what the code's contract says of it. No slice has 2 ^ 64 bytes.
+-- `on-window` is what the code's contract says of it.
 pub record Reading : Type 0 where
   pub number : List ℕ → Cache → Cache → ℕ
   pub pops : List ℕ → Cache → ℕ
   pub on-window : List ℕ → List ℕ → AnchorsCacheTransaction → Done
   pub agrees : (tables area : List ℕ) (t : AnchorsCacheTransaction)
-      → t .active ≡ true → areaBytes ≤ length area → length area < 2 ^ 64 → validCache (placesIn (length area)) tables (t .cache) ≡ true → validCache (placesIn (length area)) tables (t .undo) ≡ true
+      → t .active ≡ true → areaBytes ≤ length area → validCache (placesIn (length area)) tables (t .cache) ≡ true → validCache (placesIn (length area)) tables (t .undo) ≡ true
       → on-window tables area t ≡ answer (number area (view tables area (t .cache)) (view tables area (t .undo))) t (withCache t (poppedTimes (pops area (view tables area (t .cache))) tables (t .cache)))
   pub refused : (tables area : List ℕ) (t : AnchorsCacheTransaction) (v w : Cache) → length area < areaBytes → (on-window tables area t ≡ record { number = 1; state = t }) × (number area v w ≡ 1)
 

@@ -1,5 +1,5 @@
 -- The read of all ranges, put together from what its parts ensure.
-use Prim.Native.Nat.{ℕ, _<_, _≤_, _^_}
+use Prim.Native.Nat.{ℕ, _+_, _<_, _≤_, _^_}
 use mathlib.Core.Path.{_≡_, refl, sym, ap, _∙_}
 use mathlib.Core.Bool.{Bool, true, false}
 use mathlib.Core.List.{List, []}
@@ -13,6 +13,7 @@ use Rattle.rows.proofs.Laws.{pick-yes, pick-no}
 use Rattle.anchors_cache.specs.declared.AnchorsCacheTransaction.{AnchorsCacheTransaction}
 use Rattle.anchors_cache.specs.declared.Done.{Done}
 use Rattle.anchors_cache.specs.Calls.{popsCall}
+use Rattle.anchors_cache.proofs.Asked.{refusal-parts}
 use Rattle.range_reader.specs.Rules.{Outcome}
 use Rattle.range_reader.specs.Ready.{Wrote}
 use Rattle.range_reader.proofs.Numbers.{first-zero}
@@ -53,11 +54,18 @@ module _ (tables area : List ℕ) (t : AnchorsCacheTransaction) (routes : List �
     asked : askedOfRead tables area t routes reader ≡ 0
     asked = sym ne ∙ z
 
+    -- question 5 answered "yes": the history stands in its table
+    pub call-history : (t .cache .«history_first» + t .cache .«history_len» ≤ 256) × (14912 ≤ length tables)
+    unfolding askedOfRead
+    call-history =
+        let p = refusal-parts (length area) tables t (first-zero _ _ (first-zero _ _ (first-zero _ _ (first-zero _ _ (first-zero _ _ asked .1) .1) .1) .1) .0) in
+        (p .in-history, p .tall)
+
     pub call-idle : reader .«all_ranges_fully_read» ≡ true → (q : ReadIntoBuffers) → q ≡ unchanged 0 reader t [] .answer → record { answer = q; out = out } ≡ readAllCall tables area t routes reader mode out
     unfolding readAllCall
     call-idle m q e = rw (asked, e) (sym (pick-yes (reader .«all_ranges_fully_read») _ _ m))
 
-    module _ (m : reader .«all_ranges_fully_read» ≡ false) (x : Fixed) (xe : x ≡ fixedOf reader mode (importedIn tables t) (length out)) (start : RangesRead) (se : start ≡ atEntry (reader .«reader_state»)) where
+    module _ (m : reader .«all_ranges_fully_read» ≡ false) (x : Fixed) (xe : x ≡ fixedOf reader mode (importedIn tables (t .cache)) (length out)) (start : RangesRead) (se : start ≡ atEntry (reader .«reader_state»)) where
       pub call-start : length out < 2 ^ 64 → Start x start out
       unfolding askedOfRead settledNumber
       call-start small =

@@ -14,8 +14,10 @@ use Rattle.messages_buffer.specs.Fullness.{firstNo, noPartition}
 use Rattle.anchors_cache.specs.declared.AnchorsCacheTransaction.{AnchorsCacheTransaction}
 use Rattle.anchors_cache.specs.declared.FoundInfo.{FoundInfo}
 use Rattle.anchors_cache.specs.declared.FoundInfo.the-variants as found
-use Rattle.anchors_cache.specs.Rules.{ask}
-use Rattle.anchors_cache.specs.Calls.{areaBytes, refusal, popsCall, lastInfoCall}
+use Rattle.anchors_cache.specs.Rules.{ask, lastOf}
+use Rattle.anchors_cache.specs.Tables.{historyOf}
+use Rattle.anchors_cache.specs.declared.AnchorsCache.{AnchorsCache}
+use Rattle.anchors_cache.specs.Calls.{areaBytes, refusal, popsCall, infoFound}
 use Rattle.range_reader.specs.declared.ExternalsRangeReaderState.{ExternalsRangeReaderState}
 use Rattle.range_reader.specs.declared.ReadExternals.{ReadExternals}
 use Rattle.range_reader.specs.declared.RangeRead.{RangeRead}
@@ -220,12 +222,12 @@ windowRead tables area t routes x pops mode range room =
     toldBy (firstNo (askedNumber tables area u (x .shard) routes (x .limits) range ∷ s .value .walk .number ∷ [])) u range s
 
 -- the last imported entry's id and message count; pops never remove that entry
-abbrev pub importedIn : List ℕ → AnchorsCacheTransaction → Imported
-importedIn tables t = endOf (lastInfoCall tables t .info)
+abbrev pub importedIn : List ℕ → AnchorsCache → Imported
+importedIn tables c = endOf (infoFound (lastOf (historyOf tables c)))
 
 unfoldable pub allRead : List ℕ → List ℕ → AnchorsCacheTransaction → List ℕ → ExternalsReader → GetNextMessageGroupMode → ℕ → Outcome RangesRead
 allRead tables area t routes r mode room =
-    let x = fixedOf r mode (importedIn tables t) room in
+    let x = fixedOf r mode (importedIn tables (t .cache)) room in
     rangesRead (windowRead tables area t routes x) x (atEntry (r .«reader_state»))
 
 abbrev pub readerAfter : ExternalsReader → RangesRead → ExternalsReader

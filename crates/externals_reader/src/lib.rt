@@ -394,7 +394,8 @@ pub fn read_into_buffers(
     if reader.all_ranges_fully_read {
         return answered(0, reader, t);
     }
-    let imported = ranges::last_imported(tables, t);
+    let cache = t.cache;
+    let imported = ranges::last_imported(tables, cache);
     let x = fixed_at_entry(reader, mode, imported, out.len());
     let state = reader.reader_state;
     let start = turns::at_entry(state);

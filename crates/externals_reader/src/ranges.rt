@@ -1,14 +1,14 @@
 // Ranges and partitions of the reader's state.
-ghost use Prim.Native.Nat.{_≤_};
+ghost use Prim.Native.Nat.{_+_, _≤_};
 ghost use mathlib.Core.Path.{_≡_};
 ghost use mathlib.Core.List.{map};
+ghost use lib.ListN.{length};
 ghost use Rattle.externals_reader.specs.Rules.{withDefault, partitionsEntered, rangeEntered, rangesEntered};
 ghost use Rattle.externals_reader.specs.Calls.{withLast, stateEntered, isPresent, processedOf, importedIn};
 use crate::ExternalsPartitionReaderState;
 use crate::ExternalsReaderState;
 use crate::Imported;
-use anchors_cache::AnchorsCacheTransaction;
-use anchors_cache::FoundInfo;
+use anchors_cache::AnchorsCache;
 use ext_types::ExternalKey;
 use messages_buffer::NO_LIMIT;
 use range_reader::ExternalsRangeReaderState;
@@ -153,14 +153,15 @@ pub(crate) fn processed_in(parts: [ExternalsPartitionReaderState; 8]) -> [Proces
 }
 
 // The last imported entry's id and message count. Pops never remove that entry.
-pub(crate) fn last_imported(tables: &[u8], t: AnchorsCacheTransaction) -> Imported
-    ensures { λ r. ⌜ r ≡ importedIn (now (tables .entry)) t ⌝ }
+pub(crate) fn last_imported(tables: &[u8], cache: AnchorsCache) -> Imported
+    requires { ⌜ (cache .«history_first» + cache .«history_len» ≤ 256) × (14912 ≤ length (now tables)) ⌝ }
+    ensures { λ r. ⌜ r ≡ importedIn (now (tables .entry)) cache ⌝ }
 {
-    let a = anchors_cache::last_imported_anchor_info(tables, t);
-    let found = a.info;
-    let FoundInfo::Info(info) = found else {
+    if cache.history_len == 0 {
         return Imported::Nothing;
-    };
+    }
+    let i = cache.history_first + (cache.history_len - 1);
+    let info = anchors_cache::history_row(tables, i);
     let key = ExternalKey {
         anchor_id: info.id,
         msgs_offset: info.all_exts_count as u64,

@@ -90,6 +90,6 @@ one-range h =
       number = bookReadNumber h;
       pops = λ area present. bookSteps h present .value .pops;
       on-window = readOnWindow h;
-      agrees = λ tables area t active big fits now then. agrees h tables area t active big now then;
+      agrees = λ tables area t active big now then. agrees h tables area t active big now then;
       refused = refused h;
     }

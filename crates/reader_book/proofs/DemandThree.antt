@@ -1,5 +1,5 @@
 -- Demand 3, whole: one claim about every list of calls between an open and a close, and what it says of an abandoned attempt and of a committed one.
-use Prim.Native.Nat.{ℕ, zero, suc, _^_, _<_}
+use Prim.Native.Nat.{ℕ, zero, suc}
 use mathlib.Core.Path.{_≡_, refl, sym, ap, _∙_}
 use mathlib.Core.Bool.{Bool, true, false, _||_}
 use mathlib.Core.List.{List, [], _∷_, map}
@@ -166,7 +166,7 @@ module _ (tables area : List ℕ) (t : AnchorsCacheTransaction) where
     pub the-close-answers-0 : closed steps .number ≡ 0
     pub the-cache-is-the-book's : view tables area (closed steps .state .cache) ≡ finish (bookAfter area steps start)
 
-  module _ (fits : length area < 2 ^ 64) (opens-with-0 : openCall (length area) tables t .number ≡ 0) (steps : List Step) where
+  module _ (opens-with-0 : openCall (length area) tables t .number ≡ 0) (steps : List Step) where
     after : performed tables area (map callOf steps) opened ≡ windowAfter tables area steps opened
     after = performed-same tables area steps opened
 
@@ -175,7 +175,7 @@ module _ (tables area : List ℕ) (t : AnchorsCacheTransaction) where
 
     pub demand-three : RunsAsTheBook steps
     demand-three =
-        let p = the-book tables area fits t (map callOf steps) opens-with-0 in
+        let p = the-book tables area t (map callOf steps) opens-with-0 in
         record {
           every-number-is-the-book's = sym (told-same tables area steps opened) ∙ (p .0 ∙ numbers-same area steps start);
           the-close-answers-0 = ap (λ (x : AnchorsCacheTransaction). closeCall (length area) tables x .number) (sym after) ∙ p .1;
@@ -186,11 +186,11 @@ module _ (tables area : List ℕ) (t : AnchorsCacheTransaction) where
     pub an-abandoned-attempt-leaves-the-cache : committedIn area steps start ≡ false → view tables area (closed steps .state .cache) ≡ view tables area (t .cache)
     an-abandoned-attempt-leaves-the-cache e =
         cache-after
-        ∙ corollary.an-abandoned-attempt-leaves-the-cache tables area fits t (map callOf steps) opens-with-0 (committed-same area steps start ∙ e)
+        ∙ corollary.an-abandoned-attempt-leaves-the-cache tables area t (map callOf steps) opens-with-0 (committed-same area steps start ∙ e)
 
     -- with one, anywhere, it is what the pops and trims after the last rollback answering 0 give on the opening cache
     pub a-committed-attempt-keeps-the-steps-since-the-last-rollback : committedIn area steps start ≡ true → view tables area (closed steps .state .cache) ≡ applied (sinceRollback area steps start []) (view tables area (t .cache))
     a-committed-attempt-keeps-the-steps-since-the-last-rollback e =
         cache-after
-        ∙ (corollary.a-committed-attempt-keeps-the-steps-since-the-last-rollback tables area fits t (map callOf steps) opens-with-0 (committed-same area steps start ∙ e)
+        ∙ (corollary.a-committed-attempt-keeps-the-steps-since-the-last-rollback tables area t (map callOf steps) opens-with-0 (committed-same area steps start ∙ e)
         ∙ ap (λ (l : List book.Step). applied l (view tables area (t .cache))) (since-same area steps start []))

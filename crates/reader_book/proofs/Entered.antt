@@ -1,5 +1,5 @@
 -- The read of all ranges is a call of the book.
-use Prim.Native.Nat.{ℕ, zero, suc, _^_, _<_, _≤_}
+use Prim.Native.Nat.{ℕ, zero, suc, _<_, _≤_}
 use mathlib.Core.Path.{_≡_, refl, ap, _∙_}
 use mathlib.Core.Bool.{Bool, true, false}
 use mathlib.Core.List.{List, [], _∷_}
@@ -7,7 +7,6 @@ use lib.Dec.{leb, eqb}
 use lib.ListN.{length}
 use lib.Seq.{sets}
 use native.Mathlib.Omega.{arith}
-use native.Mathlib.Nat.{mul-div-le}
 use borrow.Author.Tests.{le-leb, lt-leb, ne-eqb}
 use Rattle.rows.specs.Rows.{pick}
 use Rattle.shard_ident.specs.Shard.{shardNumber}
@@ -19,11 +18,11 @@ use Rattle.anchors_cache.specs.declared.Done.{Done}
 use Rattle.anchors_cache.specs.Rules.{Cache, ask}
 use Rattle.anchors_cache.specs.Tables.{view}
 use Rattle.anchors_cache.specs.Windows.{poppedTimes}
-use Rattle.anchors_cache.specs.Calls.{areaBytes, placesIn, anyPlaces, validCache, refusal, refusalSeen, onZero, answer, withCache, popsCall, infoAnswer, shownInfo, lastInfoCall}
-use Rattle.anchors_cache.proofs.Asked.{Parts, parts}
+use Rattle.anchors_cache.specs.Calls.{areaBytes, placesIn, validCache, refusal, onZero, answer, withCache, popsCall}
+use Rattle.anchors_cache.proofs.Asked.{parts}
 use Rattle.cache_book.specs.Book.{popTimes, Reading}
 use Rattle.cache_book.proofs.Views.{view-popped-times}
-use Rattle.cache_book.proofs.Kept.{whole, times-parts, valid-of, holds-view}
+use Rattle.cache_book.proofs.Kept.{whole, times-parts, holds-view}
 use Rattle.range_book.proofs.Entered.{accepted}
 use Rattle.range_reader.specs.declared.ExternalsRangeReaderState.{ExternalsRangeReaderState}
 use Rattle.range_reader.specs.declared.ReadNextExternalsMode.{ReadNextExternalsMode}
@@ -45,6 +44,11 @@ unfolding firstNo
 first-more zero zero c = refl
 first-more zero (suc b) c = refl
 first-more (suc a) b c = refl
+
+-- ---- the last imported entry
+pub the-last-imported-entry-is-the-history's-last : (tables area : List ℕ) (c : AnchorsCache) → importedIn tables c ≡ importedOf (view tables area c)
+unfolding view
+the-last-imported-entry-is-the-history's-last tables area c = refl
 
 module _ (tables area : List ℕ) (t : AnchorsCacheTransaction) (active : t .active ≡ true) (big : areaBytes ≤ length area)
     (now : validCache (placesIn (length area)) tables (t .cache) ≡ true) (then : validCache (placesIn (length area)) tables (t .undo) ≡ true) where
@@ -89,25 +93,6 @@ module _ (tables area : List ℕ) (t : AnchorsCacheTransaction) (active : t .act
         let s = rangeSteps routes x (popTimes n (view tables area (t .cache))) mode range room in
         rw (popped-state n, asked-of-range n range, steps-of-range n mode range room, first-more (partitionsNumber (range .«by_partitions»)) (limitedNumber (x .limits) (range .«by_partitions»)) (s .value .walk .number))
 
-  -- ---- the last imported entry
-  more-places : length area < 2 ^ 64 → (c : AnchorsCache) → Parts places tables c → Parts anyPlaces tables c
-  more-places fits c p =
-      let i = p .in-area in
-      record {
-        tall = p .tall;
-        in-anchors = p .in-anchors;
-        in-history = p .in-history;
-        sound = p .sound;
-        few = p .few;
-        in-area = omega (arith, mul-div-le (length area) 33);
-        pend = p .pend;
-      }
-
-  pub the-last-imported-entry-is-the-history's-last : length area < 2 ^ 64 → importedIn tables t ≡ importedOf (view tables area (t .cache))
-  unfolding lastInfoCall refusalSeen infoAnswer shownInfo view
-  the-last-imported-entry-is-the-history's-last fits =
-      rw (valid-of anyPlaces tables t (more-places fits (t .cache) (parts places tables (t .cache) now)) (λ h. more-places fits (t .undo) (parts places tables (t .undo) then)))
-
   module _ (h : HandedAll) where
     abbrev v : Cache
     v = view tables area (t .cache)
@@ -125,9 +110,9 @@ module _ (tables area : List ℕ) (t : AnchorsCacheTransaction) (active : t .act
         active)
 
     -- ---- all ranges
-    all-same : length area < 2 ^ 64 → bookAsked h area v w ≡ 0 → allRead tables area t (h .routes) (h .reader) (h .mode) (length (h .out)) ≡ bookAllRead h v
+    all-same : bookAsked h area v w ≡ 0 → allRead tables area t (h .routes) (h .reader) (h .mode) (length (h .out)) ≡ bookAllRead h v
     unfolding allRead bookAllRead bookAsked settledNumber settingsNumber
-    all-same fits z =
+    all-same z =
         let p2 = first-zero _ _ (first-zero _ _ z .1) in
         let p3 = first-zero _ _ (p2 .1) in
         let p4 = first-zero _ _ (p3 .1) in
@@ -135,23 +120,23 @@ module _ (tables area : List ℕ) (t : AnchorsCacheTransaction) (active : t .act
         let x = bookFixed h v in
         ap
         (λ (i : Imported). let y = fixedOf (h .reader) (h .mode) i (length (h .out)) in rangesRead (windowRead tables area t (h .routes) y) y (atEntry (h .reader .«reader_state»)))
-        (the-last-imported-entry-is-the-history's-last fits)
+        (the-last-imported-entry-is-the-history's-last tables area (t .cache))
         ∙ two-ways-to-read-a-range-that-agree-read-all-alike (windowRead tables area t (h .routes) x) (bookRange (h .routes) x v) x (a-range-is-read-as-in-the-book (h .routes) x (p2 .0) (p3 .0) limits)
         (atEntry (h .reader .«reader_state»))
 
     -- number, counts, reader, transaction and output bytes: the contract's answer with the book's questions and the book's read
-    pub the-whole-answer-is-the-book's : length area < 2 ^ 64 → readAllCall tables area t (h .routes) (h .reader) (h .mode) (h .out)
+    pub the-whole-answer-is-the-book's : readAllCall tables area t (h .routes) (h .reader) (h .mode) (h .out)
         ≡ pick (eqb (bookAsked h area v w) 0)
         (pick (h .reader .«all_ranges_fully_read») (unchanged 0 (h .reader) t (h .out)) (allResult tables area t (h .reader) (bookAllRead h v) (h .out)))
         (unchanged (bookAsked h area v w) (h .reader) t (h .out))
     unfolding readAllCall
-    the-whole-answer-is-the-book's fits = go (bookAsked h area v w) refl
+    the-whole-answer-is-the-book's = go (bookAsked h area v w) refl
       where
         go : (k : ℕ) → bookAsked h area v w ≡ k → readAllCall tables area t (h .routes) (h .reader) (h .mode) (h .out)
             ≡ pick (eqb (bookAsked h area v w) 0)
             (pick (h .reader .«all_ranges_fully_read») (unchanged 0 (h .reader) t (h .out)) (allResult tables area t (h .reader) (bookAllRead h v) (h .out)))
             (unchanged (bookAsked h area v w) (h .reader) t (h .out))
-        go zero e = rw (asked-same, e, all-same fits e)
+        go zero e = rw (asked-same, e, all-same e)
         go (suc k) e = rw (asked-same, e, ne-eqb (suc k) 0 (λ (q : suc k ≡ 0). omega arith))
 
     abbrev Done-of : ReadAllResult → Done
@@ -184,9 +169,9 @@ module _ (tables area : List ℕ) (t : AnchorsCacheTransaction) (active : t .act
     by-questions zero mark s = rw (first-alone (pick mark 0 (s .value .number))) (by-mark mark s)
     by-questions (suc k) mark s = rw (ne-eqb (suc k) 0 (λ (q : suc k ≡ 0). omega arith))
 
-    pub agrees : length area < 2 ^ 64 → readAllOnWindow h tables area t ≡ answer (bookAllNumber h area v w) t (popped (bookAllPops h v))
+    pub agrees : readAllOnWindow h tables area t ≡ answer (bookAllNumber h area v w) t (popped (bookAllPops h v))
     unfolding readAllOnWindow bookAllNumber bookAllPops
-    agrees fits = ap Done-of (the-whole-answer-is-the-book's fits) ∙ by-questions (bookAsked h area v w) (h .reader .«all_ranges_fully_read») (bookAllRead h v)
+    agrees = ap Done-of the-whole-answer-is-the-book's ∙ by-questions (bookAsked h area v w) (h .reader .«all_ranges_fully_read») (bookAllRead h v)
 
 module _ (h : HandedAll) (tables area : List ℕ) (t : AnchorsCacheTransaction) where
   pub refused : (v w : Cache) → length area < areaBytes → (readAllOnWindow h tables area t ≡ record { number = 1; state = t }) × (bookAllNumber h area v w ≡ 1)
@@ -200,6 +185,6 @@ all-ranges h =
       number = bookAllNumber h;
       pops = λ area present. bookAllPops h present;
       on-window = readAllOnWindow h;
-      agrees = λ tables area t active big fits now then. agrees tables area t active big now then h fits;
+      agrees = λ tables area t active big now then. agrees tables area t active big now then h;
       refused = refused h;
     }

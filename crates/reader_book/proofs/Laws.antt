@@ -14,9 +14,9 @@ use Rattle.shard_ident.specs.Shard.{shardNumber}
 use Rattle.router.specs.Router.{routesNumber}
 use Rattle.messages_buffer.specs.Fullness.{every, countFits, partitionsNumber, limitedNumber, firstNo}
 use Rattle.anchors_cache.specs.declared.AnchorsCacheTransaction.{AnchorsCacheTransaction}
-use Rattle.anchors_cache.specs.declared.InfoAnswer.{InfoAnswer}
 use Rattle.anchors_cache.specs.declared.Done.{Done}
 use Rattle.anchors_cache.specs.Rules.{Anchor, Cache, Info, ask, lastOf, dropStale, popFrom, popFront}
+use Rattle.anchors_cache.specs.Tables.{view}
 use Rattle.anchors_cache.specs.Windows.{poppedTimes}
 use Rattle.anchors_cache.specs.Calls.{areaBytes, refusal, onZero, answer, withCache, popsCall, closedTransaction}
 use Rattle.cache_book.specs.Book.{popTimes}
@@ -34,9 +34,9 @@ use Rattle.externals_reader.specs.declared.Fixed.{Fixed}
 use Rattle.externals_reader.specs.declared.RangesRead.{RangesRead}
 use Rattle.externals_reader.specs.State.{noRange, soundFrom, stateNumber}
 use Rattle.externals_reader.specs.Rules.{OneRange, nextPartition, nextRange, rangesRead}
-use Rattle.externals_reader.specs.Calls.{settledNumber, askedOfRead, endOf, fixedOf, atEntry, toldBy, windowRead, importedIn, allRead, ReadAllResult, unchanged, allResult, readAllCall}
+use Rattle.externals_reader.specs.Calls.{settledNumber, askedOfRead, fixedOf, atEntry, toldBy, windowRead, importedIn, allRead, ReadAllResult, unchanged, allResult, readAllCall}
 use Rattle.externals_reader.proofs.Sound.{sound-parts, sound-counts}
-use Rattle.reader_book.specs.AllRanges.{HandedAll, bookFixed, rangeSteps, bookRange, bookAllRead}
+use Rattle.reader_book.specs.AllRanges.{HandedAll, importedOf, bookFixed, rangeSteps, bookRange, bookAllRead}
 use Rattle.reader_book.proofs.Turns.{two-ways-to-read-a-range-that-agree-read-all-alike, the-read-of-all-looks-only-at-the-ranges-it-reads}
 
 -- ---- what a call changes
@@ -121,10 +121,10 @@ module _ (tables area tables′ area′ : List ℕ) (t : AnchorsCacheTransaction
   asked-same r = rw (g .broad, free-bytes tables area tables′ area′ t g (length area′) .check)
 
   all-same : (r : ExternalsReader) (mode : GetNextMessageGroupMode) (room : ℕ) → allRead tables area t routes r mode room ≡ allRead tables′ area′ t routes r mode room
-  unfolding allRead
+  unfolding allRead view
   all-same r mode room =
-      let x = fixedOf r mode (importedIn tables′ t) room in
-      ap (λ (i : InfoAnswer). let y = fixedOf r mode (endOf (i .info)) room in rangesRead (windowRead tables area t routes y) y (atEntry (r .«reader_state»))) (free-bytes tables area tables′ area′ t g (length area′) .last-info)
+      let x = fixedOf r mode (importedIn tables′ (t .cache)) room in
+      ap (λ (v : Cache). let y = fixedOf r mode (importedOf v) room in rangesRead (windowRead tables area t routes y) y (atEntry (r .«reader_state»))) (g .now)
       ∙ two-ways-to-read-a-range-that-agree-read-all-alike (windowRead tables area t routes x) (windowRead tables′ area′ t routes x) x (range-same x) (atEntry (r .«reader_state»))
 
   -- two tables and two areas that agree on what is cached or restorable by a rollback give the same number, answer, reader, transaction and output bytes

@@ -97,7 +97,7 @@ pub record Table : Type 0 where
   pub position-2-4 : (area m n o : List ℕ) → areaBytes ≤ length area
       → bookReadNumber (handed 2 noKey (keyAt 2 4) 1000) area (one-anchor 2 (m ∷ n ∷ o ∷ [])) (one-anchor 2 (m ∷ n ∷ o ∷ [])) ≡ 11
   -- pop, commit, rollback, close: opening cache
-  pub opening-cache : (tables area : List ℕ) (t : AnchorsCacheTransaction) → length area < 2 ^ 64 → openCall (length area) tables t .number ≡ 0
+  pub opening-cache : (tables area : List ℕ) (t : AnchorsCacheTransaction) → openCall (length area) tables t .number ≡ 0
       → let u = openCall (length area) tables t .state in
       let steps = pop same ∷ commit same ∷ rollback same ∷ [] in
       let d = closeCall (length area) tables (windowAfter tables area steps u) in
@@ -165,7 +165,7 @@ eleven : (area m n o : List ℕ) → areaBytes ≤ length area → bookReadNumbe
 unfolding bookReadNumber bookSteps firstNo isShard lowestSet routesNumber soundRoutes noneTwice partitionsExist limitsNumber partitionsNumber limitedNumber allLimited every buffers rangeFull isFull holds soundCache soundFrom soundRow total anchorsRead anchorRead looked messagesRead finished refusedWith rows
 eleven area m n o big = rw (le-leb areaBytes (length area) big)
 
-module _ (tables area : List ℕ) (t : AnchorsCacheTransaction) (fits : length area < 2 ^ 64) (zero-open : openCall (length area) tables t .number ≡ 0) where
+module _ (tables area : List ℕ) (t : AnchorsCacheTransaction) (zero-open : openCall (length area) tables t .number ≡ 0) where
   abbrev v : Cache
   v = view tables area (t .cache)
 
@@ -196,7 +196,7 @@ module _ (tables area : List ℕ) (t : AnchorsCacheTransaction) (fits : length a
       let d = closeCall (length area) tables (windowAfter tables area steps u) in
       (numbersOnWindow tables area steps u ≡ 0 ∷ 0 ∷ 0 ∷ []) × (d .number ≡ 0) × (view tables area (d .state .cache) ≡ view tables area (t .cache))
   back-to-opening =
-      let d = demand-three tables area t fits zero-open steps in
+      let d = demand-three tables area t zero-open steps in
       (d .every-number-is-the-book's ∙ in-book .0, d .the-close-answers-0, d .the-cache-is-the-book's ∙ in-book .1)
 
 pub table-of-eight : Table

@@ -1,4 +1,4 @@
-use Rattle.externals_reader.proofs.CallLaws.{call-refused, call-idle, call-start, call-stopped, call-done, call-again}
+use Rattle.externals_reader.proofs.CallLaws.{call-refused, call-idle, call-history, call-start, call-stopped, call-done, call-again}
 use Rattle.externals_reader.proofs.TurnLaws.{wrote-length}
 use Rattle.externals_reader.specs.declared.Imported.{Imported}
 use Rattle.externals_reader.specs.Calls.{fixedOf}
@@ -30,7 +30,9 @@ returns-2 c =
     call-idle (now (c-args .tables)) (now (c-args .area)) (c-args .t) (now (c-args .routes)) (c-args .reader) (c-args .mode) (now (c-args .out)) _ (c .before .before .before .asked-of-read .ensures) (c .before .before .if1 .left) (c .before .if2 .taken) _ (c .answered2 .ensures)
 
 last-imported-requires : tie.Need-last-imported-requires
-last-imported-requires c κs = search needs
+last-imported-requires c κs =
+    let c-args = c .before .before .before .before .before .before .before .before .args in
+    call-history (now (c-args .tables)) (now (c-args .area)) (c-args .t) (now (c-args .routes)) (c-args .reader) (c-args .mode) (now (c-args .out)) _ (c .before .before .before .asked-of-read .ensures) (c .before .before .if1 .left)
 
 fixed-at-entry-requires : tie.Need-fixed-at-entry-requires
 fixed-at-entry-requires c κs = search needs
@@ -40,9 +42,9 @@ at-entry-requires c κs = search needs
 
 ranges-read-requires : tie.Need-ranges-read-requires
 ranges-read-requires c κs =
-    let c-args = c .before .before .before .before .before .before .before .before .before .before .before .before .args in
+    let c-args = c .before .before .before .before .before .before .before .before .before .before .before .before .before .args in
     let c-fixed-at-entry = c .before .before .before .fixed-at-entry in
-    call-start (now (c-args .tables)) (now (c-args .area)) (c-args .t) (now (c-args .routes)) (c-args .reader) (c-args .mode) (now (c-args .out)) _ (c .before .before .before .before .before .before .before .asked-of-read .ensures) (c .before .before .before .before .before .before .if1 .left) (c .before .before .before .before .before .if2 .left) _ (c-fixed-at-entry .ensures .0 ∙ ap (λ (e : Imported). fixedOf (c-args .reader) (c-args .mode) e (length (now (c-args .out)))) (c .before .before .before .before .last-imported .ensures)) _ (c .before .at-entry .ensures) (c-fixed-at-entry .ensures .1)
+    call-start (now (c-args .tables)) (now (c-args .area)) (c-args .t) (now (c-args .routes)) (c-args .reader) (c-args .mode) (now (c-args .out)) _ (c .before .before .before .before .before .before .before .before .asked-of-read .ensures) (c .before .before .before .before .before .before .before .if1 .left) (c .before .before .before .before .before .before .if2 .left) _ (c-fixed-at-entry .ensures .0 ∙ ap (λ (e : Imported). fixedOf (c-args .reader) (c-args .mode) e (length (now (c-args .out)))) (c .before .before .before .before .last-imported .ensures)) _ (c .before .at-entry .ensures) (c-fixed-at-entry .ensures .1)
 
 answered-requires-3 : tie.Need-answered-requires-3
 answered-requires-3 c κs = search needs
@@ -52,14 +54,14 @@ same-length c = search needs
 
 returns-3 : tie.Need-returns-3
 returns-3 c =
-    let c-args = c .before .before .before .before .before .before .before .before .before .before .before .before .before .before .before .before .before .before .args in
-    call-stopped (now (c-args .tables)) (now (c-args .area)) (c-args .t) (now (c-args .routes)) (c-args .reader) (c-args .mode) (now (c-args .out)) _ (c .before .before .before .before .before .before .before .before .before .before .before .before .before .asked-of-read .ensures) (c .before .before .before .before .before .before .before .before .before .before .before .before .if1 .left) (c .before .before .before .before .before .before .before .before .before .before .before .if2 .left) _ (c .before .before .before .before .before .before .before .before .before .fixed-at-entry .ensures .0 ∙ ap (λ (e : Imported). fixedOf (c-args .reader) (c-args .mode) e (length (now (c-args .out)))) (c .before .before .before .before .before .before .before .before .before .before .last-imported .ensures)) _ (c .before .before .before .before .before .before .before .at-entry .ensures) _ _ (c .before .before .before .before .before .ranges-read .ensures) (c .before .if3 .taken) _ (c .answered3 .ensures)
+    let c-args = c .before .before .before .before .before .before .before .before .before .before .before .before .before .before .before .before .before .before .before .args in
+    call-stopped (now (c-args .tables)) (now (c-args .area)) (c-args .t) (now (c-args .routes)) (c-args .reader) (c-args .mode) (now (c-args .out)) _ (c .before .before .before .before .before .before .before .before .before .before .before .before .before .before .asked-of-read .ensures) (c .before .before .before .before .before .before .before .before .before .before .before .before .before .if1 .left) (c .before .before .before .before .before .before .before .before .before .before .before .before .if2 .left) _ (c .before .before .before .before .before .before .before .before .before .fixed-at-entry .ensures .0 ∙ ap (λ (e : Imported). fixedOf (c-args .reader) (c-args .mode) e (length (now (c-args .out)))) (c .before .before .before .before .before .before .before .before .before .before .last-imported .ensures)) _ (c .before .before .before .before .before .before .before .at-entry .ensures) _ _ (c .before .before .before .before .before .ranges-read .ensures) (c .before .if3 .taken) _ (c .answered3 .ensures)
 
 ranges-read-requires-2 : tie.Need-ranges-read-requires-2
 ranges-read-requires-2 c κs =
-    let c-args = c .before .before .before .before .before .before .before .before .before .before .before .before .before .before .before .before .before .before .args in
+    let c-args = c .before .before .before .before .before .before .before .before .before .before .before .before .before .before .before .before .before .before .before .args in
     let c-fixed-at-entry = c .before .before .before .before .before .before .before .before .before .fixed-at-entry in
-    call-again (now (c-args .tables)) (now (c-args .area)) (c-args .t) (now (c-args .routes)) (c-args .reader) (c-args .mode) (now (c-args .out)) _ (c .before .before .before .before .before .before .before .before .before .before .before .before .before .asked-of-read .ensures) (c .before .before .before .before .before .before .before .before .before .before .before .before .if1 .left) (c .before .before .before .before .before .before .before .before .before .before .before .if2 .left) _ (c-fixed-at-entry .ensures .0 ∙ ap (λ (e : Imported). fixedOf (c-args .reader) (c-args .mode) e (length (now (c-args .out)))) (c .before .before .before .before .before .before .before .before .before .before .last-imported .ensures)) _ (c .before .before .before .before .before .before .before .at-entry .ensures) _ _ (c .before .before .before .before .before .ranges-read .ensures) (c-fixed-at-entry .ensures .1)
+    call-again (now (c-args .tables)) (now (c-args .area)) (c-args .t) (now (c-args .routes)) (c-args .reader) (c-args .mode) (now (c-args .out)) _ (c .before .before .before .before .before .before .before .before .before .before .before .before .before .before .asked-of-read .ensures) (c .before .before .before .before .before .before .before .before .before .before .before .before .before .if1 .left) (c .before .before .before .before .before .before .before .before .before .before .before .before .if2 .left) _ (c-fixed-at-entry .ensures .0 ∙ ap (λ (e : Imported). fixedOf (c-args .reader) (c-args .mode) e (length (now (c-args .out)))) (c .before .before .before .before .before .before .before .before .before .before .last-imported .ensures)) _ (c .before .before .before .before .before .before .before .at-entry .ensures) _ _ (c .before .before .before .before .before .ranges-read .ensures) (c-fixed-at-entry .ensures .1)
 
 pop-fronts-requires : tie.Need-pop-fronts-requires
 pop-fronts-requires c κs = search needs
@@ -72,8 +74,8 @@ same-length-2 c = wrote-length _ _ _ _ _ _ (c .before .before .before .before .b
 
 returns-4 : tie.Need-returns-4
 returns-4 c =
-    let c-args = c .before .before .before .before .before .before .before .before .before .before .before .before .before .before .before .before .before .before .before .before .before .before .before .before .before .args in
-    call-done (now (c-args .tables)) (now (c-args .area)) (c-args .t) (now (c-args .routes)) (c-args .reader) (c-args .mode) (now (c-args .out)) _ (c .before .before .before .before .before .before .before .before .before .before .before .before .before .before .before .before .before .before .before .before .asked-of-read .ensures) (c .before .before .before .before .before .before .before .before .before .before .before .before .before .before .before .before .before .before .before .if1 .left) (c .before .before .before .before .before .before .before .before .before .before .before .before .before .before .before .before .before .before .if2 .left) _ (c .before .before .before .before .before .before .before .before .before .before .before .before .before .before .before .before .fixed-at-entry .ensures .0 ∙ ap (λ (e : Imported). fixedOf (c-args .reader) (c-args .mode) e (length (now (c-args .out)))) (c .before .before .before .before .before .before .before .before .before .before .before .before .before .before .before .before .before .last-imported .ensures)) _ (c .before .before .before .before .before .before .before .before .before .before .before .before .before .before .at-entry .ensures) _ _ (c .before .before .before .before .before .before .before .before .before .before .before .before .ranges-read .ensures) (c .before .before .before .before .before .before .before .before .if3 .left) _ _ (c .before .before .before .before .before .before .ranges-read2 .ensures) _ (c .before .before .before .pop-fronts .ensures) _ (c .reader-after .ensures)
+    let c-args = c .before .before .before .before .before .before .before .before .before .before .before .before .before .before .before .before .before .before .before .before .before .before .before .before .before .before .args in
+    call-done (now (c-args .tables)) (now (c-args .area)) (c-args .t) (now (c-args .routes)) (c-args .reader) (c-args .mode) (now (c-args .out)) _ (c .before .before .before .before .before .before .before .before .before .before .before .before .before .before .before .before .before .before .before .before .before .asked-of-read .ensures) (c .before .before .before .before .before .before .before .before .before .before .before .before .before .before .before .before .before .before .before .before .if1 .left) (c .before .before .before .before .before .before .before .before .before .before .before .before .before .before .before .before .before .before .before .if2 .left) _ (c .before .before .before .before .before .before .before .before .before .before .before .before .before .before .before .before .fixed-at-entry .ensures .0 ∙ ap (λ (e : Imported). fixedOf (c-args .reader) (c-args .mode) e (length (now (c-args .out)))) (c .before .before .before .before .before .before .before .before .before .before .before .before .before .before .before .before .before .last-imported .ensures)) _ (c .before .before .before .before .before .before .before .before .before .before .before .before .before .before .at-entry .ensures) _ _ (c .before .before .before .before .before .before .before .before .before .before .before .before .ranges-read .ensures) (c .before .before .before .before .before .before .before .before .if3 .left) _ _ (c .before .before .before .before .before .before .ranges-read2 .ensures) _ (c .before .before .before .pop-fronts .ensures) _ (c .reader-after .ensures)
 
 pub read-into-buffers-spec : {M : Type 1} → statement M
 read-into-buffers-spec =

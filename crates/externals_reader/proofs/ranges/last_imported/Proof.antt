@@ -1,35 +1,58 @@
 use Rattle.externals_reader.specs.Calls.{endOf}
-use Prim.Native.Nat.{_-_}
-use mathlib.Core.Path.{sym, ap}
+use Rattle.anchors_cache.specs.Calls.{anchorInfo}
+use Rattle.anchors_cache.specs.Tables.{infoAt}
+use Rattle.anchors_cache.specs.declared.AnchorInfo.{AnchorInfo}
+use Rattle.anchors_cache.specs.declared.FoundInfo.the-variants as found
+use Rattle.anchors_cache.specs.Rules.{lastOf}
+use Rattle.anchors_cache.specs.Calls.{infoRowAt}
+use Rattle.anchors_cache.proofs.Laws.{infos-none, last-info}
+use denote.Ref.{now}
+use Prim.Native.Nat.{ℕ, suc, zero, _+_, _-_, _≤_, _<_}
+use mathlib.Core.Path.{_≡_, refl, ap, _∙_}
+use mathlib.Core.List.{List}
+use native.Mathlib.Omega.{arith}
+use lib.ListN.{length}
+use borrow.Author.Tests.{lt-ltb, le-leb}
 use borrow.Author.Needs.{needs}
 use Rattle.externals_reader.proofs.ranges.last_imported.Statement.{statement}
 use Rattle.externals_reader.proofs.ranges.last_imported.Tie as tie
 
-last-imported-anchor-info-requires : tie.Need-last-imported-anchor-info-requires
-last-imported-anchor-info-requires c κs = search needs
-
-enum-known-found : tie.Need-enum-known-found
-enum-known-found c = search needs
-
-enum-told : tie.Need-enum-told
-enum-told c = search needs
-
 returns : tie.Need-returns
-returns c = sym (rw (sym (c .before .before .last-imported-anchor-info .ensures)) (ap endOf (c .enum-told .given .1)))
+unfolding lastOf
+returns c =
+    let c-args = c .before .before .before .args in
+    rw (infos-none (c-args .cache .«history_first») (c-args .cache .«history_len») (now (c-args .tables)) (omega (arith, c .if1 .taken)))
 
-cast-t7 : tie.Need-cast-t7
-cast-t7 c = search needs
+sub-i : tie.Need-sub-i
+sub-i c = search needs
+
+add-i : tie.Need-add-i
+add-i c = search needs
+
+history-row-requires : tie.Need-history-row-requires
+history-row-requires c κs = search needs
+
+cast-t8 : tie.Need-cast-t8
+cast-t8 c = search needs
+
+positive : (n : ℕ) → (n ≡ 0 → ⊥) → 0 < n
+positive zero h = absurd (h refl)
+positive (suc k) h = omega arith
+
+in-table : (i : ℕ) (l : List ℕ) → i < 256 → 14912 ≤ length l → infoRowAt i l ≡ anchorInfo (infoAt i l)
+unfolding infoRowAt
+in-table i l h k = rw (lt-ltb i 256 h, le-leb 14912 (length l) k)
 
 returns-2 : tie.Need-returns-2
-returns-2 c = sym (rw (sym (c .before .before .before .before .last-imported-anchor-info .ensures)) (ap endOf (c .before .before .found .given .1)))
+returns-2 c =
+    let c-pre = c .before .before .before .before .before .before .before .pre in
+    let a = c .before .before .before .before .before .before .before .args in
+    let n : 0 < a .cache .«history_len» = positive (a .cache .«history_len») (c .before .before .before .before .if1 .left) in
+    let l = now (a .tables) in
+    let i = a .cache .«history_first» + (a .cache .«history_len» - 1) in
+    let e = c .before .history-row .ensures ∙ in-table i l (omega (arith, c-pre .0)) (c-pre .1) in
+    rw (last-info (a .cache .«history_first») (a .cache .«history_len») l n) (ap (λ (x : AnchorInfo). endOf (found.Info x)) e)
 
 pub last-imported-spec : {M : Type 1} → statement M
 last-imported-spec =
-    tie.close
-    (tie.spec
-    last-imported-anchor-info-requires
-    enum-known-found
-    enum-told
-    returns
-    cast-t7
-    returns-2)
+    tie.close (tie.spec returns sub-i add-i history-row-requires cast-t8 returns-2)
