@@ -1,0 +1,6 @@
+pub mod Numbers
+pub mod Records
+pub mod Windows
+pub mod Held
+pub mod Changes
+pub mod Laws
