@@ -6,9 +6,9 @@
   gen_sessions.py --every 5 --dir D            all sequences of five do bytes over one cache
   gen_sessions.py --sample                     document 01's sample session
   gen_sessions.py --named NAME                 a small hand-made session (see --list)
-  --kind plain|malformed|caps|mixed|beyond|range
+  --kind plain|malformed|caps|mixed|beyond|range|reader
                                                (mixed: mostly plain; the default;
-                                                beyond, range: for `oracle -x` only)
+                                                beyond, range, reader: for `oracle -x` only)
 """
 import argparse
 import itertools
@@ -634,6 +634,172 @@ def one_range(r):
     return out
 
 
+def readers(r):
+    """Sessions for `oracle -x` of the read of all ranges and of the reader's functions: ranges that follow one another over the
+    cached messages, with or without the block's own, skip offsets about the current ones, marks, waiting settings, every small
+    open-ranges limit, caches with and without history; some ranges are such that a read is refused in them."""
+    wc, prefix = r.choice([0, 0, -1]), r.choice([FULL, FULL, 0x4000000000000000])
+    tag = (prefix & -prefix).bit_length()
+    inside = [acc(((prefix >> tag) << tag) | r.getrandbits(tag - 1), i) for i in range(3)]
+    outside = [(other_wc(r, wc), inside[0])]
+    timeout = r.choice([0, 1, 60])
+    now = timeout * 1000 + 100
+    block = r.choice([0, 1, 3, 4, 4, 5, 5, 5, 2**32 - 1])
+    pars = sorted(r.sample(range(8), r.choice([1, 2, 2, 3])))
+    if r.random() < 0.75 and 0 not in pars:
+        pars = [0] + pars
+    wide = r.random() < 0.4
+    limits = [(r.choice([9, 20, 1024]) if wide else r.choice([1, 2, 2, 3, 3, 4, 0])) if p in pars else NONE for p in range(8)]
+    if r.random() < 0.06:
+        limits = [NONE] * 8 if r.random() < 0.5 else [x if r.random() < 0.7 else NONE for x in limits]
+    out = [shard(wc, prefix), settings(now, timeout, block, r.choice([0, 1, 2, 2, 3, 3, 4, 5, 16]), int(r.random() < 0.15), limits)]
+    mine = [p for p in range(8) if limits[p] != NONE] or pars
+    for a in inside:
+        if r.random() < 0.75 or 0 not in mine:
+            out.append(route(wc, a, r.choice(mine) if r.random() < 0.97 else r.randint(0, 7)))
+    sizes, nxt = {}, r.choice([0, 1, 1, 2, 5])
+    old = r.choice([0.0, 0.0, 0.1, 0.3])
+    how = r.choice(['add', 'add', 'put', 'both'])
+
+    def ct():
+        edge = now - timeout * 1000
+        return max(0, edge + (r.choice([-90, -50, -1]) if r.random() < old else r.choice([0, 0, 1, 1, 2, 50])))
+
+    def history():
+        out.append(rec(0x106, struct.pack('<IQII', r.choice([nxt, r.randint(0, 9)]), ct(), r.choice([0, 1, 4, 2**32 - 1]), 0) + bytes(32)))
+
+    def add(n):
+        nonlocal nxt
+        for _ in range(n):
+            k = r.choice([0, 1, 1, 2, 2, 3, 4])
+            msgs = [(wc, r.choice(inside)) if r.random() < 0.85 else r.choice(outside) for _ in range(k)]
+            ours = r.randint(1, k) if k and r.random() < 0.95 else 0
+            one = anchor(nxt, ct(), ours, msgs)
+            if ours and (how == 'put' or how == 'both' and r.random() < 0.5):
+                one = rec(0x107, one[6:])
+            elif how == 'put':
+                continue
+            out.append(one)
+            if ours:
+                sizes[nxt] = k
+            if how == 'both' and r.random() < 0.2:
+                history()
+            nxt = nxt + r.choice([1, 1, 2])
+
+    def keys(n):
+        """n places among the cached messages, in order."""
+        line = [(a, o) for a, k in sizes.items() for o in range(k + 1)] or [(0, 0), (3, 1)]
+        return sorted(r.choice(line) if r.random() < 0.93 else (r.randint(0, 9), r.choice([0, 1, 2, 7, 2**63])) for _ in range(n))
+
+    offsets = {p: r.choice([0, 0, 0, 1, 2, 3]) for p in range(8)}
+    seqnos = []
+
+    def part(p):
+        x = r.random()
+        skip = offsets[p] + r.choice([0, 0, 1]) if x < 0.3 else r.choice([0, 0, 0, 1, 2, 3])
+        count = r.choice([0, 0, 0, 1, 2, min(limits[p], 1024)]) if r.random() < 0.3 else 0
+        return (count, min(skip, 2**32 - 1), min(r.choice([0, skip, skip, skip + 1, 3, 2**32 - 1]), 2**32 - 1))
+
+    def put(s, frm, pos, to):
+        lacks, more = r.random() < 0.12, r.random() < 0.02
+        parts = {p: part(p) for p in range(8) if limits[p] != NONE and (not lacks or r.random() < 0.6) or more and r.random() < 0.2}
+        when = now if r.random() < 0.8 else max(0, now + r.choice([-50, -1, 1, 60]))
+        out.append(put_range(s, frm, to, pos, when, int(r.random() < (0.6 if pos == to else 0.08)), parts))
+
+    def ranges():
+        n = r.choice([0, 0, 1, 1, 2, 2, 3, 3, 4, 6])
+        below = range(max(0, block - 8), block)
+        some = sorted(r.sample(below, min(n, len(below))))
+        if r.random() < 0.4:
+            some.append(block)
+        if r.random() < 0.06 and block < 2**32 - 1:
+            some.append(block + 1)
+        at = keys(2 * len(some) + 1)
+        if r.random() < 0.2:
+            at[0] = (0, 0)
+        for i, s in enumerate(some):
+            frm, to = at[2 * i], at[2 * i + 2]
+            pos = r.choice([frm, frm, at[2 * i + 1], at[2 * i + 1], to])
+            if r.random() < 0.05:
+                pos, to = to, pos
+            if r.random() < 0.02:
+                pos = (pos[0], min(pos[1] + r.choice([1, 2, 2**32, 2**63]), 2**64 - 1))
+            if s not in seqnos:
+                seqnos.append(s)
+            put(s, frm, pos, to)
+
+    def partitions():
+        for p in [p for p in range(8) if limits[p] != NONE] + [r.randint(0, 7)] * (r.random() < 0.06):
+            if r.random() < 0.8:
+                offsets[p] = r.choice([0, 0, 1, 2, 3]) if r.random() < 0.97 else 2**32 - 1
+                key = keys(1)[0] if r.random() < 0.3 else (0, 0)
+                out.append(put_partition(p, key, offsets[p], int(r.random() < 0.97)))
+
+    def named():
+        return r.choice(pars) if r.random() < 0.9 else r.randint(0, 7)
+
+    def seqno():
+        return r.choice(seqnos) if seqnos and r.random() < 0.9 else r.choice([block, block, r.randint(0, 6)])
+
+    if how != 'put' and r.random() < 0.1:
+        history()
+    add(r.choice([0, 2, 3, 4, 5, 6, 8]))
+    partitions()
+    ranges()
+    if r.random() < 0.15:
+        out.append(places(r.choice([0, 1, 1, 2, 3, 4])))
+    if r.random() < 0.12:
+        out.append(rec(0x103, struct.pack('<BBQ', r.choice([0, 0, 1]), r.randint(0, 1), r.choice([0, 77, 2**64 - 1]))))
+    opened = r.random() < 0.95
+    if opened:
+        out.append(do(OPEN))
+    for _ in range(r.choice([2, 5, 8, 12])):
+        x = r.random()
+        if not opened and 0.05 < x < 0.7:
+            if x < 0.35:
+                add(r.randint(1, 3))
+            out.append(do(OPEN))
+            opened = True
+        elif x < 0.36:
+            out.append(do(READ if r.random() < 0.7 else REFILL))
+        elif x < 0.41:
+            out.append(one(seqno(), r.randint(0, 1)))
+        elif x < 0.47:
+            out.append(rec(0x112, struct.pack('<IBI', seqno(), named(), r.choice([0, 1, 1, 2, 1024, 2**32 - 1]))))
+        elif x < 0.50:
+            out.append(rec(0x113, bytes([r.choice([20, 20, 14]), 0, 0])))
+            out.append(do(READ if r.random() < 0.7 else REFILL))
+        elif x < 0.68:
+            out.append(rec(0x113, bytes([r.randint(1, 22), named(), r.randint(0, 1)])))
+        elif x < 0.72:
+            out.append(do(ROLLBACK))
+        elif x < 0.77:
+            out.append(do(r.choice([POP, COMMIT, CLOSE, OPEN])))
+            opened = opened and out[-1] != do(CLOSE)
+        elif x < 0.80:
+            out.append(rec(0x116, b''))
+        elif x < 0.85:
+            ranges()
+        elif x < 0.90:
+            partitions()
+        elif x < 0.93:
+            some = [x if x == NONE or r.random() < 0.8 else r.choice([NONE, 0, 1, 5]) for x in limits]
+            out.append(rec(0x105, struct.pack('<8H', *some)))
+        elif x < 0.95:
+            out.append(rec(0x103, struct.pack('<BBQ', int(r.random() < 0.2), r.randint(0, 1), 5)))
+        elif x < 0.96:
+            out.append(places(r.choice([0, 1, 2, 4, 1024])))
+        elif x < 0.97:
+            out.append(rec(0x110, struct.pack('<Q', ct())))
+        elif x < 0.975:
+            out.append(rec(0x108, struct.pack('<I', 33791)))
+            out.append(r.choice([do(READ), do(REFILL), one(seqno(), 0), rec(0x113, bytes([1, 0, 0]))]))
+            out.append(rec(0x108, struct.pack('<I', 33792)))
+        elif x < 0.985 and not opened:
+            history()
+    return out
+
+
 def spoiled(r, recs):
     """One record is made wrong: its length, its kind, a byte; or the session is cut."""
     how, i = r.randint(0, 5), r.randrange(len(recs))
@@ -644,8 +810,8 @@ def spoiled(r, recs):
         recs[i] = rec(kind, p[:-1])
     elif how == 2:
         recs[i] = rec(r.choice([0, 1, 3, 6, 0x100, 0x109, 0x117, 0xFFFF]), p)
-    elif how == 3 and kind in (0x101, 0x102, 0x103, 0x111):
-        at = {0x101: r.choice([48, 49, 140]), 0x102: r.choice([0, 1]), 0x103: r.choice([0, 1]), 0x111: 4}[kind]
+    elif how == 3 and kind in (0x101, 0x102, 0x103, 0x111, 0x112, 0x113):
+        at = {0x101: r.choice([48, 49, 140]), 0x102: r.choice([0, 1]), 0x103: r.choice([0, 1]), 0x111: 4, 0x112: 4, 0x113: r.randint(0, 2)}[kind]
         recs[i] = rec(kind, p[:at] + bytes([r.choice([2, 8, 255])]) + p[at + 1:])
     elif how == 4:
         b = flat(recs)
@@ -770,6 +936,8 @@ def session(seed, kind):
         return flat(beyond(r))
     if kind == 'range':
         return flat(one_range(r))
+    if kind == 'reader':
+        return flat(readers(r))
     if kind == 'plain':
         return flat(plain(r))
     return malformed(r) if kind == 'malformed' else caps(r)
@@ -780,7 +948,7 @@ def main():
     p.add_argument('--seed', type=int, default=1)
     p.add_argument('--count', type=int)
     p.add_argument('--dir')
-    p.add_argument('--kind', choices=['plain', 'malformed', 'caps', 'mixed', 'beyond', 'range'], default='mixed')
+    p.add_argument('--kind', choices=['plain', 'malformed', 'caps', 'mixed', 'beyond', 'range', 'reader'], default='mixed')
     p.add_argument('--sample', action='store_true')
     p.add_argument('--named')
     p.add_argument('--list', action='store_true')
