@@ -37,9 +37,6 @@ module _ {A : Type 0} (none : A) (of : ExternalsRangeReaderState → A) (l : Lis
 pub by-no : {A : Type 0} (n : ℕ) (done refused : A) → (n ≡ 0 → ⊥) → refused ≡ pick (eqb n 0) done refused
 by-no n done refused h = rw (ne-eqb n 0 h)
 
-pub by-yes : {A : Type 0} (n : ℕ) (done refused : A) → n ≡ 0 → done ≡ pick (eqb n 0) done refused
-by-yes n done refused h = rw (eq-eqb n 0 h)
-
 module _ (n : ℕ) (before after : ExternalsReader) where
   pub changed-no : (m : ℕ) → n ≡ m → (n ≡ 0 → ⊥) → record { number = n; reader = before } ≡ changed m before after
   changed-no m e h = rw (sym e) (ap (λ (r : ExternalsReader). record { number = n; reader = r }) (by-no n after before h))

@@ -5,15 +5,12 @@ use mathlib.Core.List.{List, [], _∷_}
 use lib.Dec.{leb, ltb, eqb}
 use lib.ListN.{take}
 use Rattle.rows.specs.Rows.{pick}
-use Rattle.ext_types.specs.declared.ExternalKey.{ExternalKey}
 use Rattle.messages_buffer.specs.Fullness.{firstNo, limitsNumber, partitionsNumber}
 use Rattle.range_reader.specs.declared.ExternalsRangeReaderState.{ExternalsRangeReaderState}
+use Rattle.range_reader.specs.Rules.{noKey}
 use Rattle.externals_reader.specs.declared.ExternalsPartitionReaderState.{ExternalsPartitionReaderState}
 use Rattle.externals_reader.specs.declared.ExternalsReaderState.{ExternalsReaderState}
 use Rattle.externals_reader.specs.declared.MsgsExecutionParams.{MsgsExecutionParams}
-
-abbrev pub noKey : ExternalKey
-noKey = record { «anchor_id» = 0; «msgs_offset» = 0 }
 
 -- the ranges that a reader holds; the slots behind them are not looked at
 abbrev pub heldRanges : ExternalsReaderState → List ExternalsRangeReaderState
