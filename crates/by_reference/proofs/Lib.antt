@@ -1,0 +1,5 @@
+pub mod Thin
+pub mod Lend
+pub mod Calls
+pub mod Refused
+pub mod Routes

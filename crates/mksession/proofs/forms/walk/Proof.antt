@@ -1,0 +1,44 @@
+use borrow.Author.Needs.{needs}
+use Rattle.mksession.proofs.forms.walk.Statement.{statement}
+use Rattle.mksession.proofs.forms.walk.Tie as tie
+
+abbrev Inv-loop : tie.InvT-loop
+Inv-loop line form out₀ w₀ turns₀ out w turns = Unit
+
+abbrev μ-loop : tie.MeasureT-loop
+μ-loop line form out₀ w₀ turns₀ out w turns = turns
+
+loop-holds : tie.Need-loop-holds Inv-loop μ-loop
+loop-holds c = search needs
+
+step-requires : tie.Need-step-requires Inv-loop μ-loop
+step-requires c κs = search needs
+
+returns : tie.Need-returns Inv-loop μ-loop
+returns c = search needs
+
+sub-turns : tie.Need-sub-turns Inv-loop μ-loop
+sub-turns c = search needs
+
+loop-less : tie.Need-loop-less Inv-loop μ-loop
+loop-less c = search needs
+
+loop-again : tie.Need-loop-again Inv-loop μ-loop
+loop-again c = search needs
+
+returns-2 : tie.Need-returns-2 Inv-loop μ-loop
+returns-2 c = search needs
+
+pub walk-spec : {M : Type 1} → statement M
+walk-spec =
+    tie.close
+    (tie.spec
+    Inv-loop
+    μ-loop
+    loop-holds
+    step-requires
+    returns
+    sub-turns
+    loop-less
+    loop-again
+    returns-2)
