@@ -1,11 +1,11 @@
 #!/usr/bin/env python3
-"""The fixed list of sessions of crates/extprobe: writes its stdin, and its stdout from the oracle's answers.
+"""The replayed list of sessions, crates/extprobe: writes its stdin, and its stdout from the oracle's answers.
 
     tests/fixed_list.py [--oracle FILE]     writes crates/extprobe/stdin and stdout
     tests/fixed_list.py --list              numbers and names of the sessions
 
-First the hand-made sessions below, then random ones of gen_sessions.py. The expected output is what the Rust original
-prints (`oracle -x`), never what extprobe prints.
+First extread's sessions (extread_list.py), then extprobe's: the hand-made ones below and random ones of gen_sessions.py.
+The expected output is what the Rust original prints (`oracle`, `oracle -x`), never what extprobe prints.
 """
 import argparse
 import os
@@ -13,6 +13,7 @@ import sys
 
 sys.dont_write_bytecode = True
 from differ import TOP, by_oracle, framed, gen_sessions as g  # noqa: E402
+import extread_list  # noqa: E402
 from gen_sessions import A, CLOSE, COMMIT, FULL, NONE, OPEN, POP, READ, REFILL, ROLLBACK  # noqa: E402
 from gen_sessions import acc, anchor, do, one, places, put_partition, put_range, rec, route, settings, shard  # noqa: E402
 
@@ -455,17 +456,18 @@ def main():
     p.add_argument('--oracle', default=os.path.join(TOP, 'oracle', 'target', 'release', 'oracle'))
     p.add_argument('--list', action='store_true')
     a = p.parse_args()
-    names, data = zip(*sessions())
+    plain, probe = extread_list.sessions(), sessions()
     if a.list:
-        print('\n'.join('%3d %s' % x for x in enumerate(names)))
+        print('\n'.join('%3d %s' % (i, name) for i, (name, _) in enumerate(plain + probe)))
         return
+    first, then = [b for _, b in plain], [b for _, b in probe]
     crate = os.path.join(TOP, 'crates', 'extprobe')
     with open(os.path.join(crate, 'stdin'), 'wb') as f:
-        f.write(framed(data))
-    outs = by_oracle(a.oracle, data)
+        f.write(framed(first, True) + framed(then))
+    outs = by_oracle(a.oracle, first, []) + by_oracle(a.oracle, then)
     with open(os.path.join(crate, 'stdout'), 'w', encoding='ascii') as f:
-        f.write(''.join('session %d\n%s' % x for x in enumerate(outs)))
-    print('%d sessions' % len(data))
+        f.write(''.join('session %d\n%s' % x for x in enumerate(outs)) + 'sessions %d\n' % len(outs))
+    print("%d sessions of extread's, %d of extprobe's" % (len(first), len(then)))
 
 
 if __name__ == '__main__':

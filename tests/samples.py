@@ -2,13 +2,14 @@
 """The samples in samples/, read a second time: the text form of crates/mksession/README.md.
 
     tests/samples.py [--oracle FILE]          writes samples/*.out, and stdin and stdout of crates/mksession
-    tests/samples.py --program FILE [--count K]
+    tests/samples.py --programs DIR           runs each sample through DIR/mksession and DIR/extread or DIR/extprobe
+    tests/samples.py --mksession FILE [--count K]
                                               runs mksession on wrong lines, and on K random sessions written as text, whole and spoilt
     tests/samples.py --text FILE              a session's records as text
 
 The reading here shares no code with mksession: its bytes are made by the functions of gen_sessions.py. samples/*.out is
-what the Rust original prints. stdin is the samples' texts one after the other, those without a `session` line first,
-then tests/every_word.txt, which has every word and ends with a wrong line.
+what the Rust original prints: `oracle -x` where a sample's comment says `| extprobe`, else `oracle`. stdin is the samples'
+texts one after the other, then tests/every_word.txt, which has every word and ends with a wrong line.
 """
 import argparse
 import glob
@@ -19,7 +20,7 @@ import subprocess
 import sys
 
 sys.dont_write_bytecode = True
-from differ import TOP, by_oracle, framed, gen_sessions as g  # noqa: E402
+from differ import TOP, by_oracle, gen_sessions as g  # noqa: E402
 import fixed_list as x  # noqa: E402
 
 DOS = ['open', 'pop', 'read', 'refill', 'commit', 'rollback', 'close']
@@ -197,30 +198,19 @@ def record(words):
     return data
 
 
-def sessions(text):
-    """The bytes before the first `session` line, the sessions, and the number of the wrong line, if there is one."""
-    found = [b'']
+def made(text):
+    """What mksession writes for the text, and the number of the wrong line, or 0."""
+    data = b''
     for n, line in enumerate(text.split(b'\n'), 1):
         words = [t.decode('latin-1') for t in re.split(rb'[ ,\t\r]+', line.split(b'#')[0]) if t]
         try:
-            if len(line) > 65536:
-                raise Wrong('long')
-            if words == ['session']:
-                found.append(b'')
-            elif words:
-                one = record(words)
-                if len(one) + (len(found[-1]) if found[1:] else 0) > MOST:
-                    raise Wrong('long')
-                found[-1] += one
+            one = record(words) if words else b''
         except Wrong:
-            return found[0], found[1:], n
-    return found[0], found[1:], 0
-
-
-def made(text):
-    """What mksession writes for the text."""
-    plain, some, _ = sessions(text)
-    return plain + framed(some)
+            return data, n
+        if len(line) > 65536 or len(one) > MOST:
+            return data, n
+        data += one
+    return data, 0
 
 
 def keyed(name, key):
@@ -324,7 +314,7 @@ took seqno:5 partition:0
 function
 hex 0
 hex 0g
-session 1
+session
 18446744073709551615
 -
 :'''.split('\n')
@@ -336,16 +326,15 @@ def run(program, text):
 
 
 FULL = 'hex ' + '00' * 32766 + '\n'    # the longest line
-LONG = [FULL, ' ' + FULL, HEAD + '#' + FULL, 'anchor id:1 time_ms:1 ours:1 3970*0:00', 'anchor id:1 time_ms:1 ours:1 3971*0:00',
-        'session\n' + FULL * 4 + 'hex 0011223344556677', 'session\n' + FULL * 4 + 'hex 001122334455667788', FULL * 5]
+LONG = [FULL, ' ' + FULL, HEAD + '#' + FULL, 'anchor id:1 time_ms:1 ours:1 3970*0:00', 'anchor id:1 time_ms:1 ours:1 3971*0:00', FULL * 5]
 SIGNS = b' ,:*-#\n\t\r0123456789abcfpxs_'
 
 
 def compare(program, text):
     """Bytes, and the number of the wrong line; answers what the program said."""
     out, err = run(program, text)
-    n = sessions(text)[2]
-    assert out == made(text), text
+    data, n = made(text)
+    assert out == data, text
     assert err.startswith('line %d: ' % n) and err.count('\n') == 1 if n else err == '', (text, err)
     return err.rstrip('\n')
 
@@ -357,7 +346,7 @@ def try_wrong(program):
         assert err.startswith('line 3: '), line
         print('%s\n    %s' % (line, err))
     wrong = [compare(program, text.encode()) != '' for text in LONG]
-    assert wrong == [False, True, True, False, True, False, True, False], wrong
+    assert wrong == [False, True, True, False, True, False], wrong
 
 
 def spoilt(r, text):
@@ -375,52 +364,68 @@ def try_random(program, count):
     r, wrong = g.random.Random(1), 0
     for i in range(count):
         session = g.session(i, kinds[i % 5 if i % 20 else 5])
-        text = ('session\n' + text_of(session)).encode()
-        if len(session) <= MOST:
-            assert compare(program, text) == '' and made(text) == framed([session]), i
+        text = text_of(session).encode()
+        assert compare(program, text) == '' and made(text) == (session, 0), i
         wrong += compare(program, spoilt(r, text)) != ''
     print('%d random sessions; of the spoilt ones %d are wrong' % (count, wrong))
 
 
-def write_all(oracle):
-    texts = {}
+def samples():
+    """Each sample's path without its end, its text, and the program that its comment names."""
     for path in sorted(glob.glob(os.path.join(TOP, 'samples', '*.txt'))):
         with open(path, 'rb') as f:
-            texts[path] = f.read()
-        plain, some, wrong = sessions(texts[path])
-        assert not wrong and (not plain or not some), (path, wrong)
-        if some:
-            out = ''.join('session %d\n%s' % one for one in enumerate(by_oracle(oracle, some))).encode()
-        else:
-            out = subprocess.run([oracle], input=plain, stdout=subprocess.PIPE, check=True).stdout
-        with open(path[:-4] + '.out', 'wb') as f:
-            f.write(out)
+            text = f.read()
+        yield path[:-4], text, re.search(r'^# Run: .* \| (extread|extprobe)\b', text.decode(), re.M)[1]
+
+
+def write_all(oracle):
+    texts = []
+    for path, text, program in samples():
+        data, wrong = made(text)
+        assert not wrong, (path, wrong)
+        with open(path + '.out', 'w', encoding='ascii') as f:
+            f.write(by_oracle(oracle, [data], ['-x'] if program == 'extprobe' else [])[0])
+        texts.append(text)
     with open(os.path.join(TOP, 'tests', 'every_word.txt'), 'rb') as f:
-        last = f.read()
-    order = sorted(texts, key=lambda path: (bool(sessions(texts[path])[1]), path))
-    text = b''.join(texts[path] for path in order) + last
-    crate = os.path.join(TOP, 'crates', 'mksession')
-    for name, data in (('stdin', text), ('stdout', made(text))):
-        with open(os.path.join(crate, name), 'wb') as f:
+        text = b''.join(texts) + f.read()
+    for name, data in (('stdin', text), ('stdout', made(text)[0])):
+        with open(os.path.join(TOP, 'crates', 'mksession', name), 'wb') as f:
             f.write(data)
-    print('%d samples, %d bytes expected' % (len(texts), len(made(text))))
+    print('%d samples, %d bytes expected' % (len(texts), len(made(text)[0])))
+
+
+def try_samples(where):
+    """Each sample through the programs: what they print is in NAME.out."""
+    differ = 0
+    for path, text, program in samples():
+        data, err = run(os.path.join(where, 'mksession'), text)
+        out, _ = run(os.path.join(where, program), data)
+        with open(path + '.out', 'rb') as f:
+            same = err == '' and out == f.read()
+        differ += not same
+        print('%-20s %-9s%s' % (os.path.basename(path), program, 'equal' if same else 'DIFFERS'))
+    return differ
 
 
 def main():
     p = argparse.ArgumentParser(description=__doc__, formatter_class=argparse.RawDescriptionHelpFormatter)
     p.add_argument('--oracle', default=os.path.join(TOP, 'oracle', 'target', 'release', 'oracle'))
-    p.add_argument('--program')
+    p.add_argument('--programs')
+    p.add_argument('--mksession')
     p.add_argument('--count', type=int, default=600)
     p.add_argument('--text')
     a = p.parse_args()
     if a.text:
         with open(a.text, 'rb') as f:
             sys.stdout.write(text_of(f.read()))
-    elif a.program:
-        try_wrong(a.program)
-        try_random(a.program, a.count)
+    elif a.programs:
+        return try_samples(a.programs)
+    elif a.mksession:
+        try_wrong(a.mksession)
+        try_random(a.mksession, a.count)
     else:
         write_all(a.oracle)
+    return 0
 
 
 if __name__ == '__main__':

@@ -1,99 +1,27 @@
-// The calls of the anchors cache on the bytes that are lent, and rows that are put without a call.
+// The calls of the anchors cache beyond those of extread, and rows that are put without a call.
 use crate::text;
 use anchors_cache::AnchorsCache;
 use anchors_cache::AnchorsCacheTransaction;
 use anchors_cache::Done;
 use anchors_cache::FoundInfo;
-use anchors_cache::MempoolAnchor;
 use ext_types::ChainTime;
 use ext_types::ExternalKey;
 use rows::Appended;
 
-fn author_of(p: &[u8]) -> [u8; 32] {
-    let mut author = [0u8; 32];
-    if 44 <= p.len() {
-        rows::copy_in(&mut author, 0, &p[12..44]);
-    }
-    author
-}
-
-fn anchor_of(p: &[u8]) -> MempoolAnchor {
-    let author = author_of(p);
-    let time = ChainTime(rows::u64_at(p, 4));
-    MempoolAnchor {
-        id: rows::u32_at(p, 0),
-        chain_time: time,
-        author: author,
-    }
-}
-
-// An anchor as its record has it. The record's length was asked before.
-pub fn add(
-    tables: &mut [u8],
-    area: &mut [u8],
-    lent: usize,
-    t: AnchorsCacheTransaction,
-    p: &[u8],
-) -> Done {
-    let anchor = anchor_of(p);
-    let ours = rows::u32_at(p, 44);
-    if lent <= area.len() {
-        if 50 <= p.len() {
-            return anchors_cache::add(tables, &mut area[0..lent], t, anchor, ours, &p[50..]);
-        }
-    }
-    Done {
-        number: 17,
-        state: t,
-    }
-}
-
-fn pop(tables: &[u8], area: &[u8], t: AnchorsCacheTransaction) -> Done {
-    let popped = anchors_cache::pop_front(tables, area, t);
-    let state = popped.state;
-    Done {
-        number: popped.number,
-        state: state,
-    }
-}
-
-fn trim(tables: &[u8], area: &[u8], t: AnchorsCacheTransaction, ct: u64) -> Done {
+// A trim on the part of the area that is lent.
+pub fn trim(tables: &[u8], area: &[u8], lent: usize, t: AnchorsCacheTransaction, ct: u64) -> Done {
     let time = ChainTime(ct);
-    let trimmed = anchors_cache::remove_last_imported_above(tables, area, t, time);
+    if area.len() < lent {
+        return Done {
+            number: 17,
+            state: t,
+        };
+    }
+    let trimmed = anchors_cache::remove_last_imported_above(tables, &area[0..lent], t, time);
     let state = trimmed.state;
     Done {
         number: trimmed.number,
         state: state,
-    }
-}
-
-// The call of a do byte, or a trim.
-fn called(tables: &[u8], area: &[u8], t: AnchorsCacheTransaction, d: u8, ct: u64) -> Done {
-    match d {
-        1 => anchors_cache::open(tables, area, t),
-        2 => pop(tables, area, t),
-        5 => anchors_cache::commit(tables, area, t),
-        6 => anchors_cache::rollback(tables, area, t),
-        7 => anchors_cache::close(tables, area, t),
-        _ => trim(tables, area, t, ct),
-    }
-}
-
-// The call on the part of the area that is lent.
-pub fn call(
-    tables: &[u8],
-    area: &[u8],
-    lent: usize,
-    t: AnchorsCacheTransaction,
-    d: u8,
-    ct: u64,
-) -> Done {
-    if lent <= area.len() {
-        return called(tables, &area[0..lent], t, d, ct);
-    }
-    Done {
-        number: 17,
-        state: t,
     }
 }
 

@@ -1,4 +1,5 @@
 // The reader's calls of a function record: which 1, partition 1, flag 1.
+use crate::state;
 use crate::state::Run;
 use crate::text;
 use anchors_cache::AnchorsCacheTransaction;
@@ -100,9 +101,7 @@ fn print_asked(which: u8, answer: FlagAnswer) {
 pub fn after(run: Run, which: u8, done: ReaderDone) -> Run {
     let reader = done.reader;
     text::print_call(which, done.number, b"\n");
-    let mut next = run;
-    next.reader = reader;
-    next
+    state::with_reader(run, reader)
 }
 
 pub fn function(tables: &[u8], run: Run, p: &[u8]) -> Run {
@@ -111,8 +110,8 @@ pub fn function(tables: &[u8], run: Run, p: &[u8]) -> Run {
     let reader = run.reader;
     match which {
         2 | 3 | 4 | 5 | 7 | 8 | 9 | 10 | 11 | 12 => {
-            let t = run.cache;
-            print_asked(which, asked(tables, t, reader, which, par_id));
+            let session = run.session;
+            print_asked(which, asked(tables, session.cache, reader, which, par_id));
             run
         }
         6 | 13 | 22 => {

@@ -1,10 +1,11 @@
 // The reads of one range and of all ranges, and the lines of their answers.
-use crate::lines;
+use crate::shown;
 use crate::state;
 use crate::state::Run;
 use crate::text;
 use anchors_cache::AnchorsCacheTransaction;
 use externals_reader::ExternalsReader;
+use externals_reader::ExternalsReaderState;
 use externals_reader::GetNextMessageGroupMode;
 use range_reader::ExternalsRangeReaderState;
 use range_reader::LastChainTime;
@@ -206,11 +207,12 @@ fn called(
     run: Run,
     what: What,
 ) -> ReadDone {
-    let t = run.cache;
+    let session = run.session;
+    let t = session.cache;
     let reader = run.reader;
     let n = run.area;
-    let k = run.routes;
-    let m = lent_bytes(run.places, run.number, output.len());
+    let k = session.routes;
+    let m = lent_bytes(run.places, session.number, output.len());
     if n <= area.len() {
         if k <= routes.len() {
             if m <= output.len() {
@@ -260,32 +262,19 @@ fn print_counts(counts: ReadCounts) {
     }
 }
 
-// An entry of the output.
-fn print_entry(output: &[u8], i: usize) {
-    if 1024 <= i {
-        return;
+// The entries that were written; 112,000 bytes are room for 1,024.
+fn print_entries(output: &[u8], used: usize) {
+    let mut text = [0u8; 112000];
+    if used <= output.len() {
+        let at = lines::put_entries(&mut text, 0, &output[0..used]);
+        text::write_front(&text, at);
     }
-    let from = 26 * i;
-    let seqno = rows::u32_at(output, from) as u64;
-    let partition = rows::u16_at(output, from + 4) as u64;
-    let id = rows::u32_at(output, from + 6) as u64;
-    let offset = rows::u64_at(output, from + 10);
-    let time = rows::u64_at(output, from + 18);
-    text::print(
-        b"add",
-        b" ",
-        [seqno, partition, id, offset, time, 0, 0, 0, 0],
-        5,
-        b"\n",
-    );
 }
 
-fn print_entries(output: &[u8], n: usize) {
-    let mut i = 0;
-    while i < n {
-        print_entry(output, i);
-        i += 1;
-    }
+fn print_ranges(state: ExternalsReaderState) {
+    let mut text = [0u8; 2112];
+    let at = lines::put_ranges(&mut text, 0, state);
+    text::write_front(&text, at);
 }
 
 // One range's answer, or that of all ranges.
@@ -298,15 +287,15 @@ fn print_answer(output: &[u8], one: bool, r: ReadDone) {
     }
     if one {
         io::write_all(1, b"answer");
-        lines::print_last(last, b"");
+        shown::print_last(last, b"");
         text::print_one(b"", r.full as u64, b"\n");
         print_counts(counts);
-        print_entries(output, r.used / 26);
+        print_entries(output, r.used);
         return;
     }
-    print_entries(output, r.used / 26);
+    print_entries(output, r.used);
     print_counts(counts);
-    lines::print_ranges(reader.reader_state, true);
+    print_ranges(reader.reader_state);
 }
 
 // A refused read's reader and transaction are taken too: they are as at entry.
@@ -316,11 +305,8 @@ fn read(tables: &[u8], area: &[u8], routes: &[u8], run: Run, which: u8, what: Wh
     text::print_call(which, r.number, b"\n");
     print_answer(&output, what.one, r);
     let reader = r.reader;
-    let cache = r.cache;
-    let mut next = run;
-    next.reader = reader;
-    next.cache = cache;
-    next
+    let next = state::with_cache(run, r.cache);
+    state::with_reader(next, reader)
 }
 
 // One range's read: seqno 4, mode 1.

@@ -3,27 +3,23 @@ ghost use Prim.Native.Nat.{_<_};
 use anchors_cache::AnchorsCacheTransaction;
 use ext_types::ChainTime;
 use ext_types::ExternalKey;
-use ext_types::Seconds;
 use externals_reader::ExternalsPartitionReaderState;
 use externals_reader::ExternalsReader;
 use externals_reader::ExternalsReaderState;
-use externals_reader::MsgsExecutionParams;
 use externals_reader::ReaderDone;
 use messages_buffer::ExternalsPartitionRangeReaderState;
 use range_reader::ExternalsRangeReaderState;
 use range_reader::LastChainTime;
 use range_reader::ProcessedTo;
-use shard_ident::ShardIdent;
+use session_cache::Session;
 
-// `from` is where the next record begins, `number` that of the last one; then what is lent to the calls: bytes of the message area and of the routes, places of the output.
+// A session on its way; the next record begins at `from`; `plain`: only extread's records, and its lines. Then what is lent to the calls: bytes of the message area, places of the output.
 pub struct Run {
     pub from: usize,
-    pub number: u64,
-    pub done: bool,
+    pub plain: bool,
     pub area: usize,
-    pub routes: usize,
     pub places: usize,
-    pub cache: AnchorsCacheTransaction,
+    pub session: Session,
     pub reader: ExternalsReader,
 }
 
@@ -35,27 +31,6 @@ fn key_at(p: &[u8], at: usize) -> ExternalKey
         anchor_id: rows::u32_at(p, at),
         msgs_offset: rows::u64_at(p, at + 4),
     }
-}
-
-// A signed number of 32 bits, by its two's complement.
-fn signed(x: u32) -> i32 {
-    if x < 2147483648 {
-        return x as i32;
-    }
-    let y = (4294967295 - x) as i32;
-    !y
-}
-
-pub fn limits_at(p: &[u8], from: usize) -> [u16; 8]
-    requires { ⌜ from < 1000 ⌝ }
-{
-    let mut limits = [0u16; 8];
-    let mut i = 0;
-    while i < 8 {
-        limits[i] = rows::u16_at(p, from + 2 * i);
-        i += 1;
-    }
-    limits
 }
 
 fn partition_at(p: &[u8], at: usize) -> ExternalsPartitionRangeReaderState
@@ -116,53 +91,6 @@ fn last_of(p: &[u8]) -> LastChainTime {
     LastChainTime::Nothing
 }
 
-// No range and no partition: an empty payload has zeros only.
-fn no_state() -> ExternalsReaderState {
-    let range = range_of(b"");
-    let partition = reader_partition_of(b"");
-    let last = last_of(b"");
-    ExternalsReaderState {
-        ranges: [range; 16],
-        len: 0,
-        by_partitions: [partition; 8],
-        last_read_to_anchor_chain_time: last,
-    }
-}
-
-fn shard_of(p: &[u8]) -> ShardIdent {
-    ShardIdent {
-        workchain: signed(rows::u32_at(p, 0)),
-        prefix: rows::u64_at(p, 4),
-    }
-}
-
-// A reader without ranges, over the settings of a payload.
-fn settled(shard: ShardIdent, p: &[u8]) -> ExternalsReader {
-    let timeout = Seconds(rows::u32_at(p, 8));
-    let params = MsgsExecutionParams {
-        externals_expire_timeout: timeout,
-        open_ranges_limit: rows::byte_at(p, 16),
-        new_is_some: rows::byte_at(p, 17) == 1,
-    };
-    let limits = limits_at(p, 18);
-    let state = no_state();
-    ExternalsReader {
-        for_shard_id: shard,
-        block_seqno: rows::u32_at(p, 12),
-        next_chain_time: ChainTime(rows::u64_at(p, 0)),
-        msgs_exec_params: params,
-        buffer_limits_by_partitions: limits,
-        reader_state: state,
-        all_ranges_fully_read: false,
-    }
-}
-
-// The shard of the payload, and no settings.
-pub fn with_shard(p: &[u8]) -> ExternalsReader {
-    let shard = shard_of(p);
-    settled(shard, b"")
-}
-
 // `new` over what the reader holds.
 pub fn renewed(reader: ExternalsReader) -> ReaderDone {
     let shard = reader.for_shard_id;
@@ -173,26 +101,34 @@ pub fn renewed(reader: ExternalsReader) -> ReaderDone {
     externals_reader::new(shard, reader.block_seqno, time, params, limits, state)
 }
 
-// `new` with the settings of the payload.
-pub fn with_settings(reader: ExternalsReader, p: &[u8]) -> ReaderDone {
-    let shard = reader.for_shard_id;
-    let fresh = settled(shard, p);
-    renewed(fresh)
-}
-
-pub fn new() -> Run {
-    let cache = anchors_cache::new();
-    let reader = with_shard(b"");
+// Before the first record.
+pub fn new(plain: bool) -> Run {
     Run {
         from: 0,
-        number: 0,
-        done: false,
+        plain: plain,
         area: 33792,
-        routes: 0,
         places: 1024,
-        cache: cache,
-        reader: reader,
+        session: session_cache::new(),
+        reader: session::no_reader(),
     }
+}
+
+pub fn with_reader(run: Run, reader: ExternalsReader) -> Run {
+    let mut next = run;
+    next.reader = reader;
+    next
+}
+
+pub fn with_session(run: Run, session: Session) -> Run {
+    let mut next = run;
+    next.session = session;
+    next
+}
+
+pub fn with_cache(run: Run, cache: AnchorsCacheTransaction) -> Run {
+    let mut session = run.session;
+    session.cache = cache;
+    with_session(run, session)
 }
 
 // The index of the range with a seqno, 16 where there is none.

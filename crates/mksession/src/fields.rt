@@ -15,7 +15,7 @@ fn bad(at: usize) -> Written {
     }
 }
 
-pub fn put(out: &mut [u8; 131076], at: usize, v: u64, w: usize) -> Written {
+pub fn put(out: &mut [u8; 131072], at: usize, v: u64, w: usize) -> Written {
     rows::put_le(out, at, v, w);
     Written {
         at: std::num::wrapping_add_usize(at, w),
@@ -23,7 +23,7 @@ pub fn put(out: &mut [u8; 131076], at: usize, v: u64, w: usize) -> Written {
     }
 }
 
-fn number(word: &[u8], w: usize, hexadecimal: bool, out: &mut [u8; 131076], at: usize) -> Written {
+fn number(word: &[u8], w: usize, hexadecimal: bool, out: &mut [u8; 131072], at: usize) -> Written {
     let n = numbers::number(word, hexadecimal);
     if !n.good {
         return bad(at);
@@ -34,7 +34,7 @@ fn number(word: &[u8], w: usize, hexadecimal: bool, out: &mut [u8; 131076], at: 
     put(out, at, n.value, w)
 }
 
-fn signed(word: &[u8], w: usize, out: &mut [u8; 131076], at: usize) -> Written {
+fn signed(word: &[u8], w: usize, out: &mut [u8; 131072], at: usize) -> Written {
     let n = numbers::signed(word, w);
     if !n.good {
         return bad(at);
@@ -43,7 +43,7 @@ fn signed(word: &[u8], w: usize, out: &mut [u8; 131076], at: usize) -> Written {
 }
 
 // Bytes as they are, two digits each.
-fn bytes(word: &[u8], out: &mut [u8; 131076], at: usize) -> Written {
+fn bytes(word: &[u8], out: &mut [u8; 131072], at: usize) -> Written {
     let mut p = Written { at: at, good: true };
     let mut left = word.len();
     while 0 < left {
@@ -61,7 +61,7 @@ fn bytes(word: &[u8], out: &mut [u8; 131076], at: usize) -> Written {
 }
 
 // The first bytes of 32; the others are 0.
-fn account(word: &[u8], out: &mut [u8; 131076], at: usize) -> Written {
+fn account(word: &[u8], out: &mut [u8; 131072], at: usize) -> Written {
     if 64 < word.len() {
         return bad(at);
     }
@@ -74,7 +74,7 @@ fn account(word: &[u8], out: &mut [u8; 131076], at: usize) -> Written {
 }
 
 // WORKCHAIN:ACCOUNT.
-fn address(word: &[u8], out: &mut [u8; 131076], at: usize) -> Written {
+fn address(word: &[u8], out: &mut [u8; 131072], at: usize) -> Written {
     let k = words::find(word, 0, b':');
     if word.len() <= k {
         return bad(at);
@@ -86,7 +86,7 @@ fn address(word: &[u8], out: &mut [u8; 131076], at: usize) -> Written {
     account(words::part(word, k + 1, word.len()), out, p.at)
 }
 
-fn repeated(word: &[u8], n: u64, out: &mut [u8; 131076], at: usize) -> Written {
+fn repeated(word: &[u8], n: u64, out: &mut [u8; 131072], at: usize) -> Written {
     let mut p = Written { at: at, good: true };
     let mut left = n;
     while 0 < left {
@@ -100,7 +100,7 @@ fn repeated(word: &[u8], n: u64, out: &mut [u8; 131076], at: usize) -> Written {
 }
 
 // An address, or N*ADDRESS for N of them.
-fn messages(word: &[u8], out: &mut [u8; 131076], at: usize) -> Written {
+fn messages(word: &[u8], out: &mut [u8; 131072], at: usize) -> Written {
     let k = words::find(word, 0, b'*');
     if word.len() <= k {
         return address(word, out, at);
@@ -119,7 +119,7 @@ fn messages(word: &[u8], out: &mut [u8; 131076], at: usize) -> Written {
 }
 
 // FFFF for `-` or nothing.
-fn limit(word: &[u8], out: &mut [u8; 131076], at: usize) -> Written {
+fn limit(word: &[u8], out: &mut [u8; 131072], at: usize) -> Written {
     if word.len() == 0 {
         return put(out, at, 65535, 2);
     }
@@ -130,7 +130,7 @@ fn limit(word: &[u8], out: &mut [u8; 131076], at: usize) -> Written {
 }
 
 // The value of a field of this kind and width (see forms).
-pub fn value(kind: u8, w: usize, word: &[u8], out: &mut [u8; 131076], at: usize) -> Written {
+pub fn value(kind: u8, w: usize, word: &[u8], out: &mut [u8; 131072], at: usize) -> Written {
     match kind {
         b'u' => number(word, w, false, out, at),
         b'x' => number(word, w, true, out, at),

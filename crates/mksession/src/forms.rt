@@ -16,12 +16,12 @@ pub const NO_ROOM: u8 = 5;
 
 pub const LONG_LINE: u8 = 6;
 
-// A row for each word that begins a line: the word, the record's kind (0000: it has no head; ffff: none is written), and the fields.
+// A row for each word that begins a line: the word, the record's kind (0000: it has no head), and the fields.
 // A field is its kind, width, mark and name. Kinds: u number, x hexadecimal number, i number with a sign, l limit, c 32 bytes,
 // a address, m messages, h bytes, f a 1 that says that what follows is there.
 // Marks: `:` the name is written, `=` it is not, `?` the field may be left out and is 0 then, `+` like `=`, left out with
 // the one before, `!` the name is the value, `*` any number of words.
-pub const FORMS: [u8; 1277] = *b"shard 0001 i4=workchain x8=prefix
+pub const FORMS: [u8; 1264] = *b"shard 0001 i4=workchain x8=prefix
 settings 0003 u8:next_ms u4:timeout_s u4:seqno u1:open_limit u1:waiting l2:limits l2=limit l2=limit l2=limit l2=limit l2=limit l2=limit l2=limit
 route 0002 a0=address u1:partition
 anchor 0004 u4:id u8:time_ms c0?by u4:ours u2!0 m0*message
@@ -50,8 +50,7 @@ function 0113 u1=function u1?partition u1?flag
 info_at 0114 u8:time_ms
 in_range 0115 u4=id u8=offset
 new 0116
-hex 0000 h0*bytes
-session ffff";
+hex 0000 h0*bytes";
 
 // Along a line and a form at once: where each goes on, where the next byte goes, whether the field before was left out,
 // whether this one comes again, whether the walk is over, and what is wrong, or 0.
@@ -101,7 +100,7 @@ fn refused(w: Walked, wrong: u8) -> Walked {
     x
 }
 
-fn left_out(field: &[u8], w: Walked, out: &mut [u8; 131076]) -> Walked {
+fn left_out(field: &[u8], w: Walked, out: &mut [u8; 131072]) -> Walked {
     let p = fields::put(out, w.at, 0, width(rows::byte_at(field, 1)));
     let mut x = w;
     x.at = p.at;
@@ -110,7 +109,7 @@ fn left_out(field: &[u8], w: Walked, out: &mut [u8; 131076]) -> Walked {
 }
 
 // The value is written, and the line goes on at a place.
-fn valued(field: &[u8], word: &[u8], w: Walked, line: usize, out: &mut [u8; 131076]) -> Walked {
+fn valued(field: &[u8], word: &[u8], w: Walked, line: usize, out: &mut [u8; 131072]) -> Walked {
     let kind = rows::byte_at(field, 0);
     let p = fields::value(kind, width(rows::byte_at(field, 1)), word, out, w.at);
     if !p.good {
@@ -124,7 +123,7 @@ fn valued(field: &[u8], word: &[u8], w: Walked, line: usize, out: &mut [u8; 1310
 }
 
 // A word without a name. Only a limit may be missing; where a 1 is written, the word is not yet taken.
-fn bare(line: &[u8], field: &[u8], word: Word, w: Walked, out: &mut [u8; 131076]) -> Walked {
+fn bare(line: &[u8], field: &[u8], word: Word, w: Walked, out: &mut [u8; 131072]) -> Walked {
     let from = word.from;
     let end = word.end;
     let kind = rows::byte_at(field, 0);
@@ -140,7 +139,7 @@ fn bare(line: &[u8], field: &[u8], word: Word, w: Walked, out: &mut [u8; 131076]
 }
 
 // The name before the value.
-fn named(line: &[u8], field: &[u8], word: Word, w: Walked, out: &mut [u8; 131076]) -> Walked {
+fn named(line: &[u8], field: &[u8], word: Word, w: Walked, out: &mut [u8; 131072]) -> Walked {
     let name = words::part(field, 3, field.len());
     let text = words::part(line, word.from, word.end);
     let mut here = false;
@@ -165,7 +164,7 @@ fn named(line: &[u8], field: &[u8], word: Word, w: Walked, out: &mut [u8; 131076
 }
 
 // Each word, till there is none.
-fn many(line: &[u8], field: &[u8], word: Word, w: Walked, out: &mut [u8; 131076]) -> Walked {
+fn many(line: &[u8], field: &[u8], word: Word, w: Walked, out: &mut [u8; 131072]) -> Walked {
     if word.end <= word.from {
         return w;
     }
@@ -174,7 +173,7 @@ fn many(line: &[u8], field: &[u8], word: Word, w: Walked, out: &mut [u8; 131076]
     x
 }
 
-fn one(line: &[u8], field: &[u8], w: Walked, out: &mut [u8; 131076]) -> Walked {
+fn one(line: &[u8], field: &[u8], w: Walked, out: &mut [u8; 131072]) -> Walked {
     let word = words::next(line, w.line);
     match rows::byte_at(field, 2) {
         b':' | b'?' => named(line, field, word, w, out),
@@ -191,7 +190,7 @@ fn one(line: &[u8], field: &[u8], w: Walked, out: &mut [u8; 131076]) -> Walked {
 }
 
 // The next field. Where something is wrong, the walk stays at it.
-fn step(line: &[u8], form: &[u8], w: Walked, out: &mut [u8; 131076]) -> Walked {
+fn step(line: &[u8], form: &[u8], w: Walked, out: &mut [u8; 131072]) -> Walked {
     let place = words::next(form, w.form);
     let from = place.from;
     let end = place.end;
@@ -212,7 +211,7 @@ fn step(line: &[u8], form: &[u8], w: Walked, out: &mut [u8; 131076]) -> Walked {
 }
 
 // The fields of a line. There are fewer of them than turns: a line has at most 65,536 bytes.
-pub fn walk(line: &[u8], form: &[u8], start: Walked, out: &mut [u8; 131076]) -> Walked {
+pub fn walk(line: &[u8], form: &[u8], start: Walked, out: &mut [u8; 131072]) -> Walked {
     let mut w = start;
     let mut turns: usize = 65536;
     while 0 < turns {

@@ -5,61 +5,75 @@ mod lines;
 mod numbers;
 mod words;
 
-use crate::lines::Run;
+// `number` is that of the line being read, `length` how many of its bytes are there; the text read goes on from `at` to `end`.
+struct Run {
+    number: u64,
+    length: usize,
+    at: usize,
+    end: usize,
+    stopped: bool,
+}
 
-fn take_byte(run: Run, b: u8, line: &mut [u8; 65536], out: &mut [u8; 131076]) -> Run {
-    if run.stopped {
-        return run;
-    }
+fn end_line(run: Run, line: &[u8; 65536], out: &mut [u8; 131072]) -> Run {
+    let mut next = run;
+    next.stopped = !lines::line(line, run.length, run.number, out);
+    next.number = std::num::wrapping_add_u64(run.number, 1);
+    next.length = 0;
+    next
+}
+
+fn take_byte(run: Run, b: u8, line: &mut [u8; 65536], out: &mut [u8; 131072]) -> Run {
     if b == b'\n' {
-        return lines::end_line(run, line, out);
+        return end_line(run, line, out);
     }
     let n = run.length;
+    let mut next = run;
     if 65536 <= n {
-        return lines::refused(run, out, forms::LONG_LINE, b"");
+        next.stopped = !lines::refused(run.number, forms::LONG_LINE, b"");
+        return next;
     }
     line[n] = b;
-    let mut next = run;
     next.length = n + 1;
     next
 }
 
-fn take_bytes(text: &[u8], start: Run, line: &mut [u8; 65536], out: &mut [u8; 131076]) -> Run {
-    let mut run = start;
-    let mut i = 0;
-    while i < text.len() {
-        run = take_byte(run, text[i], line, out);
-        i += 1;
+// More of the text; the last line may lack its end.
+fn read_some(run: Run, text: &mut [u8; 65536], line: &[u8; 65536], out: &mut [u8; 131072]) -> Run {
+    let n = io::read_full(0, text);
+    let mut next = run;
+    next.at = 0;
+    next.end = n;
+    if n == 0 {
+        next = end_line(run, line, out);
+        next.stopped = true;
     }
-    run
+    next
 }
 
-// Some of the text; the last line may lack its end.
-fn read_some(run: Run, line: &mut [u8; 65536], out: &mut [u8; 131076]) -> Run {
-    let mut text = io::buffer();
-    let n = io::read_full(0, &mut text);
-    if n == 0 {
-        let last = take_byte(run, b'\n', line, out);
-        let mut next = lines::flush(last, out);
-        next.stopped = true;
-        return next;
+fn turn(run: Run, text: &mut [u8; 65536], line: &mut [u8; 65536], out: &mut [u8; 131072]) -> Run {
+    let at = run.at;
+    if at < run.end {
+        let mut next = run;
+        next.at = at + 1;
+        return take_byte(next, rows::byte_at(text, at), line, out);
     }
-    take_bytes(&text[..n], run, line, out)
+    read_some(run, text, line, out)
 }
 
 fn main() {
+    let mut text = [0u8; 65536];
     let mut line = [0u8; 65536];
-    let mut out = [0u8; 131076];
+    let mut out = [0u8; 131072];
     let mut run = Run {
-        line: 1,
+        number: 1,
         length: 0,
-        at: 4,
-        in_session: false,
+        at: 0,
+        end: 0,
         stopped: false,
     };
     let mut turns = u64::MAX;
     while 0 < turns {
-        run = read_some(run, &mut line, &mut out);
+        run = turn(run, &mut text, &mut line, &mut out);
         if run.stopped {
             return;
         }

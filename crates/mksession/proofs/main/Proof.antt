@@ -3,16 +3,16 @@ use Rattle.mksession.proofs.main.Statement.{statement}
 use Rattle.mksession.proofs.main.Tie as tie
 
 abbrev Inv-loop : tie.InvT-loop
-Inv-loop line₀ out₀ run₀ turns₀ line out run turns = Unit
+Inv-loop text₀ line₀ out₀ run₀ turns₀ text line out run turns = Unit
 
 abbrev μ-loop : tie.MeasureT-loop
-μ-loop line₀ out₀ run₀ turns₀ line out run turns = turns
+μ-loop text₀ line₀ out₀ run₀ turns₀ text line out run turns = turns
 
 loop-holds : tie.Need-loop-holds Inv-loop μ-loop
 loop-holds c = search needs
 
-read-some-requires : tie.Need-read-some-requires Inv-loop μ-loop
-read-some-requires c κs = search needs
+turn-requires : tie.Need-turn-requires Inv-loop μ-loop
+turn-requires c κs = search needs
 
 returns : tie.Need-returns Inv-loop μ-loop
 returns c = search needs
@@ -36,7 +36,7 @@ main-spec =
     Inv-loop
     μ-loop
     loop-holds
-    read-some-requires
+    turn-requires
     returns
     sub-turns
     loop-less

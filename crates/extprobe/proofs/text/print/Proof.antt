@@ -9,6 +9,9 @@ Inv-loop before separator n after numbers line₀ named to₀ i₀ line to i = U
 abbrev μ-loop : tie.MeasureT-loop
 μ-loop before separator n after numbers line₀ named to₀ i₀ line to i = 9 - i
 
+slice-aggregate-put : tie.Need-slice-aggregate-put Inv-loop μ-loop
+slice-aggregate-put c = search needs
+
 put-requires : tie.Need-put-requires Inv-loop μ-loop
 put-requires c κs = search needs
 
@@ -48,11 +51,8 @@ loop-less-2 c = search needs
 loop-again-2 : tie.Need-loop-again-2 Inv-loop μ-loop
 loop-again-2 c = search needs
 
-put-requires-2 : tie.Need-put-requires-2 Inv-loop μ-loop
-put-requires-2 c κs = search needs
-
-flush-requires : tie.Need-flush-requires Inv-loop μ-loop
-flush-requires c κs = search needs
+print-line-requires : tie.Need-print-line-requires Inv-loop μ-loop
+print-line-requires c κs = search needs
 
 returns : tie.Need-returns Inv-loop μ-loop
 returns c = search needs
@@ -63,6 +63,7 @@ print-spec =
     (tie.spec
     Inv-loop
     μ-loop
+    slice-aggregate-put
     put-requires
     slice-aggregate-put-number
     array-read-put-number
@@ -76,6 +77,5 @@ print-spec =
     add-i
     loop-less-2
     loop-again-2
-    put-requires-2
-    flush-requires
+    print-line-requires
     returns)

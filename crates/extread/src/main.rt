@@ -1,0 +1,192 @@
+// Runs the session on standard input and prints its lines (document 01, "Session program"). The input may be of any length; it is read, and the text is written, in large pieces.
+use externals_reader::ExternalsReader;
+use records::Next;
+use session::Stepped;
+use session_cache::Session;
+
+// A session on its way, and the input that is at hand, from `from` to `end`.
+struct Run {
+    session: Session,
+    reader: ExternalsReader,
+    from: usize,
+    end: usize,
+}
+
+// No record's text is longer than 113,735 bytes; with more text than this there might be no room for one more.
+const MOST: usize = 16384;
+
+fn write_front(text: &[u8], at: usize) {
+    if at <= text.len() {
+        io::write_all(1, &text[0..at]);
+    }
+}
+
+// The text is written where it is longer than `most`.
+fn flushed(text: &[u8; 131072], session: Session, most: usize) -> Session {
+    let mut s = session;
+    if most < session.at {
+        write_front(text, session.at);
+        s.at = 0;
+    }
+    s
+}
+
+// How many bytes more were read behind the first `have`.
+fn read_more(window: &mut [u8], have: usize) -> usize {
+    if window.len() <= have {
+        return 0;
+    }
+    let rest = &mut window[have..];
+    let got = libc::read(0, &mut *rest);
+    io::count(got, &*rest)
+}
+
+// What is at hand goes down to the front, and more input behind it.
+fn refilled(window: &mut [u8; 65536], text: &mut [u8; 131072], run: Run) -> Run {
+    let have = std::num::wrapping_sub_usize(run.end, run.from);
+    rows::move_down(window, run.from, 0, have);
+    let more = read_more(window, have);
+    let mut next = run;
+    next.from = 0;
+    next.end = std::num::wrapping_add_usize(have, more);
+    if more == 0 {
+        let session = session_cache::end(text, run.session, 0 < have);
+        next.session = session;
+    }
+    next
+}
+
+fn skim() -> usize {
+    let mut buffer = io::large_buffer();
+    io::read_full(0, &mut buffer)
+}
+
+// Whether so many bytes more stand in the input. The program stops behind them, so more may be read.
+fn has_more(n: usize) -> bool {
+    let mut left = n;
+    while 0 < left {
+        let got = skim();
+        if got == 0 {
+            return false;
+        }
+        if left <= got {
+            return true;
+        }
+        left -= got;
+    }
+    true
+}
+
+// Whether the n bytes from a place on stand in the input, of which those before `end` are at hand.
+fn has_all(start: usize, end: usize, n: usize) -> bool {
+    let have = std::num::wrapping_sub_usize(end, start);
+    if n <= have {
+        return true;
+    }
+    has_more(n - have)
+}
+
+// The record in the n bytes from a place on.
+fn whole(
+    window: &[u8],
+    text: &mut [u8],
+    tables: &mut [u8],
+    area: &mut [u8],
+    routes: &mut [u8],
+    entries: &mut [u8],
+    run: Run,
+    start: usize,
+    n: usize,
+) -> Stepped {
+    let session = run.session;
+    let reader = run.reader;
+    if start <= window.len() {
+        if n <= window.len() - start {
+            let record = &window[start..start + n];
+            return session::step(tables, area, routes, entries, text, session, reader, record);
+        }
+    }
+    Stepped {
+        session: session,
+        reader: reader,
+    }
+}
+
+// A record that is too long, by its first 52 bytes; one that the input ends in is malformed.
+fn long(window: &[u8], text: &mut [u8], tables: &[u8], area: &[u8], run: Run, n: usize) -> Session {
+    let start = std::num::wrapping_add_usize(run.from, 4);
+    let end = std::num::wrapping_add_usize(start, 52);
+    let session = run.session;
+    if has_all(start, run.end, n) {
+        if start <= end {
+            if end <= window.len() {
+                let head = &window[start..end];
+                return session_cache::long_record(tables, area, text, session, head, n);
+            }
+        }
+    }
+    session_cache::end(text, session, true)
+}
+
+fn turn(
+    window: &mut [u8; 65536],
+    text: &mut [u8; 131072],
+    tables: &mut [u8; 14912],
+    area: &mut [u8; 33792],
+    routes: &mut [u8; 8704],
+    entries: &mut [u8; 26624],
+    run: Run,
+) -> Run {
+    let found = records::next_record(window, run.from, run.end);
+    match found {
+        Next::Whole(start, n) => {
+            let s = whole(window, text, tables, area, routes, entries, run, start, n);
+            let reader = s.reader;
+            Run {
+                session: flushed(text, s.session, MOST),
+                reader: reader,
+                from: std::num::wrapping_add_usize(start, n),
+                end: run.end,
+            }
+        }
+        Next::Long(n) => {
+            let mut next = run;
+            next.session = long(window, text, tables, area, run, n);
+            next
+        }
+        Next::Part => refilled(window, text, run),
+    }
+}
+
+fn main() {
+    let mut window = [0u8; 65536];
+    let mut text = [0u8; 131072];
+    let mut tables = [0u8; 14912];
+    let mut area = [0u8; 33792];
+    let mut routes = [0u8; 8704];
+    let mut entries = [0u8; 26624];
+    let mut run = Run {
+        session: session_cache::new(),
+        reader: session::no_reader(),
+        from: 0,
+        end: 0,
+    };
+    let mut turns = u64::MAX;
+    while 0 < turns {
+        run = turn(
+            &mut window,
+            &mut text,
+            &mut tables,
+            &mut area,
+            &mut routes,
+            &mut entries,
+            run,
+        );
+        let session = run.session;
+        if session.stopped {
+            flushed(&text, session, 0);
+            return;
+        }
+        turns -= 1;
+    }
+}

@@ -1,0 +1,211 @@
+-- How long a record's text is, where it is shown, and what a session says that has stopped.
+use Prim.Native.Nat.{ℕ, _+_, _/_, _≤_}
+use mathlib.Core.Path.{_≡_, refl}
+use mathlib.Core.Bool.{Bool, true, false}
+use mathlib.Core.List.{List, [], _∷_, _++_}
+use native.Mathlib.Nat.{mul-div-le}
+use native.Mathlib.Omega.{arith}
+use lib.Dec.{eqb}
+use lib.ListN.{length, take, drop, getD, length-append, length-take}
+use lib.Seq.{sets, length-sets}
+use borrow.Author.Tests.{eqb-true}
+use Rattle.rows.specs.Rows.{pick, numAt, wholeRows}
+use Rattle.rows.proofs.Laws.{rows-length}
+use Rattle.anchors_cache.specs.declared.AnchorsCacheTransaction.{AnchorsCacheTransaction}
+use Rattle.externals_reader.specs.declared.ExternalsReader.{ExternalsReader}
+use Rattle.externals_reader.specs.declared.GetNextMessageGroupMode.{GetNextMessageGroupMode}
+use Rattle.externals_reader.specs.declared.ReadIntoBuffers.{ReadIntoBuffers}
+use Rattle.externals_reader.specs.Calls.{ReadAllResult, askedOfRead, allRead, readAllCall}
+use Rattle.lines.specs.Lines.{places, decimal, spaced, line, entryLines, rangeLines}
+use Rattle.lines.proofs.Lengths.{line-length, entry-lines-length, range-lines-length, bad-line-length, a-text-that-fits-is-shown-whole}
+use Rattle.session_cache.specs.declared.Session.{Session}
+use Rattle.session_cache.specs.Said.{Said, told, withAt, numbered, silent, refused, judged, malformedSaid, routeSaid, anchorSaid, isRead, doName, called, cacheSaid, isTaken, plainSaid}
+use Rattle.session.specs.Steps.{shardDone, settled, doneSaid, doneReader, modeOf, readText, readSaid, Lent, reachesReader, readOf, hasRoutes, readerSaid, readerReader, Outcome, readerOutcome, plainOutcome, takenOutcome, stepOf}
+
+-- what holds of both holds of the one that is picked
+either : {A : Type 0} (P : A → Type 0) (b : Bool) (x y : A) → P x → P y → P (pick b x y)
+either P true x y p q = p
+either P false x y p q = q
+
+-- ---- the lines but a read's
+abbrev Short : Said → Type 0
+Short a = length (a .text) ≤ 46
+
+refused-short : (s : Session) (number : ℕ) → Short (refused s number)
+unfolding refused
+refused-short s number = bad-line-length (s .number) number
+
+silent-short : (s : Session) → Short (silent s)
+silent-short s = omega arith
+
+judged-short : (before after : Session) (number : ℕ) → Short (judged before after number)
+unfolding judged
+judged-short before after number = either Short (eqb number 0) (silent after) (refused before number) (silent-short after) (refused-short before number)
+
+malformed-short : (s : Session) → Short (malformedSaid s)
+unfolding malformedSaid
+malformed-short s = either Short (s .stopped) (silent s) (refused (numbered s) 17) (silent-short s) (refused-short (numbered s) 17)
+
+name-length : (d : ℕ) → length (doName d) ≤ 8
+unfolding doName
+name-length d =
+    let P : List ℕ → Type 0 = λ l. length l ≤ 8 in
+    either P (isRead d) _ _ (omega arith)
+    (either P (eqb d 1) _ _ (omega arith)
+    (either P (eqb d 2) _ _ (omega arith) (either P (eqb d 5) _ _ (omega arith) (either P (eqb d 6) _ _ (omega arith) (omega arith)))))
+
+call-length : (d number : ℕ) → length (line (doName d) (number ∷ [])) ≤ 30
+call-length d number = let h = line-length (doName d) (number ∷ []) in let k = name-length d in omega arith
+
+cache-short : (s : Session) (n : ℕ) (tables : List ℕ) (d : ℕ) → Short (cacheSaid s n tables d)
+unfolding cacheSaid
+cache-short s n tables d = let h = call-length d (called n tables (s .cache) d .number) in omega arith
+
+plain-short : (tables area routes : List ℕ) (s : Session) (kind : ℕ) (p : List ℕ) → Short (plainSaid tables area routes s kind p)
+unfolding plainSaid anchorSaid routeSaid
+plain-short tables area routes s kind p =
+    either Short (eqb kind 4) _ _ (judged-short s _ _)
+    (either Short (eqb kind 2) _ _ (judged-short s _ _) (cache-short s (length area) tables (getD p 0 0)))
+
+-- ---- a read's
+pub a-read-keeps-the-output's-length : (tables area : List ℕ) (t : AnchorsCacheTransaction) (routes : List ℕ) (r : ExternalsReader) (mode : GetNextMessageGroupMode) (out : List ℕ)
+    → length (readAllCall tables area t routes r mode out .out) ≡ length out
+unfolding readAllCall
+a-read-keeps-the-output's-length tables area t routes r mode out =
+    let s = allRead tables area t routes r mode (length out) in
+    let P : ReadAllResult → Type 0 = λ x. length (x .out) ≡ length out in
+    either P (eqb (askedOfRead tables area t routes r) 0) _ _
+    (either P (r .«all_ranges_fully_read») _ _ refl (either P (eqb (s .value .number) 0) _ _ (length-sets out 0 (s .entries)) refl))
+    refl
+
+entries-length : (used : ℕ) (out : List ℕ) → length out ≤ 26624 → length (entryLines (wholeRows 26 (take used out))) ≤ 111616
+entries-length used out h =
+    let l = take used out in
+    let n = length-take used out in
+    let k = entry-lines-length (wholeRows 26 l) in
+    let e = rows-length 26 (length l / 26) l in
+    let m = mul-div-le (length l) 26 in
+    omega arith
+
+ranges-length : (a : ReadIntoBuffers) → length (a .reader .«reader_state» .ranges) ≤ 16
+    → length (rangeLines (take (a .reader .«reader_state» .len) (a .reader .«reader_state» .ranges))) ≤ 2112
+ranges-length a h =
+    let l = take (a .reader .«reader_state» .len) (a .reader .«reader_state» .ranges) in
+    let n = length-take (a .reader .«reader_state» .len) (a .reader .«reader_state» .ranges) in
+    let k = range-lines-length l in
+    omega arith
+
+-- read 0
+read-line : length (line (doName 3) (0 ∷ [])) ≡ 7
+unfolding line spaced decimal places doName isRead
+read-line = refl
+
+pub a-read's-text-fits : (a : ReadIntoBuffers) (out : List ℕ) → length out ≤ 26624 → length (a .reader .«reader_state» .ranges) ≤ 16 → length (readText a out) ≤ 113735
+unfolding readText
+a-read's-text-fits a out h k = go (a .number) (eqb (a .number) 0) refl
+  where
+    entries : List ℕ
+    entries = entryLines (wholeRows 26 (take (a .used) out))
+
+    ranges : List ℕ
+    ranges = rangeLines (take (a .reader .«reader_state» .len) (a .reader .«reader_state» .ranges))
+
+    go : (n : ℕ) (b : Bool) → eqb n 0 ≡ b → length (line (doName 3) (n ∷ []) ++ pick b (entries ++ ranges) []) ≤ 113735
+    go n true e =
+        let m = entries-length (a .used) out h in
+        let o = ranges-length a k in
+        rw (eqb-true n 0 e, length-append (line (doName 3) (0 ∷ [])) (entries ++ ranges), length-append entries ranges, read-line) (omega arith)
+    go n false e =
+        let m = call-length 3 n in
+        rw (length-append (line (doName 3) (n ∷ [])) []) (omega arith)
+
+-- ---- the place of the text
+abbrev At : ℕ → Said → Type 0
+At at a = a .session .at ≡ at
+
+judged-at : (before after : Session) (number : ℕ) → after .at ≡ before .at → At (before .at) (judged before after number)
+unfolding judged refused
+judged-at before after number h = either (At (before .at)) (eqb number 0) (silent after) (refused before number) h refl
+
+reader-at : (l : Lent) (s : Session) (r : ExternalsReader) (kind : ℕ) (p : List ℕ) → At (s .at) (readerSaid l s r kind p)
+unfolding readerSaid readSaid refused
+reader-at l s r kind p =
+    either (At (s .at)) (eqb kind 1) _ _ (judged-at s s (shardDone r p .number) refl)
+    (either (At (s .at)) (eqb kind 3) _ _ (judged-at s s (settled r p .number) refl)
+    (either (At (s .at)) (hasRoutes l s) (readSaid s (readOf l s r p)) (refused s 3) refl refl))
+
+plain-at : (tables area routes : List ℕ) (s : Session) (kind : ℕ) (p : List ℕ) → At (s .at) (plainSaid tables area routes s kind p)
+unfolding plainSaid anchorSaid routeSaid cacheSaid
+plain-at tables area routes s kind p =
+    either (At (s .at)) (eqb kind 4) _ _ (judged-at s _ _ refl)
+    (either (At (s .at)) (eqb kind 2) _ _ (judged-at s _ _ refl) refl)
+
+malformed-at : (s : Session) → At (s .at) (malformedSaid s)
+unfolding malformedSaid refused numbered
+malformed-at s = either (At (s .at)) (s .stopped) (silent s) (refused (numbered s) 17) refl refl
+
+-- ---- one record
+module _ (l : Lent) (s : Session) (r : ExternalsReader) (kind : ℕ) (p : List ℕ) where
+  reader-fits : length (l .entries) ≤ 26624 → length (readerReader l s r kind p .«reader_state» .ranges) ≤ 16 → length (readerSaid l s r kind p .text) ≤ 113735
+  unfolding readerSaid readerReader readSaid
+  reader-fits h = go (eqb kind 1) (eqb kind 3) (hasRoutes l s)
+    where
+      a : ReadAllResult
+      a = readOf l s r p
+
+      go : (shard settings routes : Bool)
+          → length (pick shard (doneReader r (shardDone r p)) (pick settings (doneReader r (settled r p)) (pick routes (a .answer .reader) r)) .«reader_state» .ranges) ≤ 16
+          → length (pick shard (doneSaid s (shardDone r p)) (pick settings (doneSaid s (settled r p)) (pick routes (readSaid s a) (refused s 3))) .text) ≤ 113735
+      go true settings routes k = let m = judged-short s s (shardDone r p .number) in omega arith
+      go false true routes k = let m = judged-short s s (settled r p .number) in omega arith
+      go false false true k =
+          let e = a-read-keeps-the-output's-length (l .tables) (l .area) (s .cache) (take (s .routes) (l .routes)) r (modeOf (getD p 0 0)) (l .entries) in
+          a-read's-text-fits (a .answer) (a .out) (omega arith) k
+      go false false false k = let m = refused-short s 3 in omega arith
+
+  taken-fits : length (l .entries) ≤ 26624 → length (takenOutcome l s r kind p .reader .«reader_state» .ranges) ≤ 16 → length (takenOutcome l s r kind p .said .text) ≤ 113735
+  unfolding takenOutcome readerOutcome plainOutcome
+  taken-fits h = go (reachesReader kind (getD p 0 0))
+    where
+      go : (b : Bool) → length (pick b (readerOutcome l s r kind p) (plainOutcome l s r kind p) .reader .«reader_state» .ranges) ≤ 16
+          → length (pick b (readerOutcome l s r kind p) (plainOutcome l s r kind p) .said .text) ≤ 113735
+      go true k = reader-fits h k
+      go false k = let m = plain-short (l .tables) (l .area) (l .routes) s kind p in omega arith
+
+module _ (l : Lent) (s : Session) (r : ExternalsReader) (rec : List ℕ) where
+  pub every-record's-text-fits : length (l .entries) ≤ 26624 → length (stepOf l s r rec .reader .«reader_state» .ranges) ≤ 16 → length (stepOf l s r rec .said .text) ≤ 113735
+  unfolding stepOf
+  every-record's-text-fits h = go (isTaken s rec)
+    where
+      taken : Outcome
+      taken = takenOutcome l (numbered s) r (numAt 2 0 rec) (drop 2 rec)
+
+      malformed : Outcome
+      malformed = record { said = malformedSaid s; reader = r; lent = l }
+
+      go : (b : Bool) → length (pick b taken malformed .reader .«reader_state» .ranges) ≤ 16 → length (pick b taken malformed .said .text) ≤ 113735
+      go true k = taken-fits l (numbered s) r (numAt 2 0 rec) (drop 2 rec) h k
+      go false k = let m = malformed-short s in omega arith
+
+  -- a record's text goes to the session's place, so all of it is shown where that many bytes follow
+  step-at : At (s .at) (stepOf l s r rec .said)
+  unfolding stepOf takenOutcome readerOutcome plainOutcome numbered
+  step-at =
+      let P : Outcome → Type 0 = λ o. At (s .at) (o .said) in
+      let kind = numAt 2 0 rec in
+      let p = drop 2 rec in
+      either P (isTaken s rec) _ _
+      (either P (reachesReader kind (getD p 0 0)) _ _ (reader-at l (numbered s) r kind p) (plain-at (l .tables) (l .area) (l .routes) (numbered s) kind p))
+      (malformed-at s)
+
+  pub every-record's-text-is-shown-whole : length (l .entries) ≤ 26624 → length (stepOf l s r rec .reader .«reader_state» .ranges) ≤ 16 → (bytes : List ℕ) → s .at + 113735 ≤ length bytes
+      → told (stepOf l s r rec .said) bytes
+      ≡ record { session = withAt (stepOf l s r rec .said .session) (s .at + length (stepOf l s r rec .said .text)); bytes = sets bytes (s .at) (stepOf l s r rec .said .text) }
+  every-record's-text-is-shown-whole h k bytes room =
+      let fits = every-record's-text-fits h k in
+      rw (step-at) (rw (a-text-that-fits-is-shown-whole (stepOf l s r rec .said .text) (record { at = s .at; bytes = bytes }) (omega arith)))
+
+  -- a session that has stopped says nothing, and changes nothing
+  pub nothing-is-said-after-bad : s .stopped ≡ true → stepOf l s r rec ≡ record { said = silent s; reader = r; lent = l }
+  unfolding stepOf isTaken malformedSaid
+  nothing-is-said-after-bad h = rw h

@@ -1,0 +1,157 @@
+use Rattle.session.specs.Steps.{Lent, Outcome, readerOutcome, plainOutcome}
+use Rattle.session.specs.Steps.{Lent, readerOutcome, plainOutcome}
+use Rattle.session.proofs.Laws.{taken-length, stepped, not-taken, taken-reaches, taken-plain}
+use Rattle.rows.proofs.Laws.{told-yes, told-no}
+use Rattle.records.proofs.Laws.{rest-all}
+use Rattle.session_cache.specs.Said.{malformedSaid}
+use Prim.Native.Nat.{ℕ, _-_}
+use mathlib.Core.Path.{refl, sym, ap, _∙_}
+use mathlib.Core.List.{List}
+use lib.ListN.{length, take, drop}
+use borrow.Author.Needs.{needs}
+use Rattle.session.proofs.step.Statement.{statement}
+use Rattle.session.proofs.step.Tie as tie
+
+is-taken-requires : tie.Need-is-taken-requires
+is-taken-requires c κs = search needs
+
+malformed-requires : tie.Need-malformed-requires
+malformed-requires c κs = search needs
+
+same-length : tie.Need-same-length
+same-length c = search needs
+
+returns : tie.Need-returns
+returns c =
+    let c-is-taken = c .before .before .before .before .before .is-taken in
+    let a = c .before .before .before .before .before .before .before .before .before .before .before .before .args in
+    let l : Lent = record { tables = a .tables .now; area = a .area .now; routes = a .routes .now; entries = a .entries .now } in
+    let rec = a .«record» .now in
+    let taken = told-no (c-is-taken .result) (c-is-taken .ensures) (c .before .before .before .before .if1 .taken) in
+    let o : Outcome = record { said = malformedSaid (a .session); reader = a .reader; lent = l } in
+    stepped l (a .session) (a .reader) rec (a .text .now) _ _ _ o (not-taken l (a .session) (a .reader) rec taken) (c .before .before .malformed .ensures, refl, refl)
+
+numbered-requires : tie.Need-numbered-requires
+numbered-requires c κs = search needs
+
+u16-at-requires : tie.Need-u16-at-requires
+u16-at-requires c κs = search needs
+
+sub-p : tie.Need-sub-p
+sub-p c =
+    let c-is-taken = c .before .before .before .is-taken in
+    taken-length _ _ (told-yes (c-is-taken .result) (c-is-taken .ensures) (c .before .before .if1 .left))
+
+part-p-start : tie.Need-part-p-start
+part-p-start c =
+    let c-is-taken = c .before .before .before .is-taken in
+    taken-length _ _ (told-yes (c-is-taken .result) (c-is-taken .ensures) (c .before .before .if1 .left))
+
+part-p-end : tie.Need-part-p-end
+part-p-end c = search needs
+
+byte-at-requires : tie.Need-byte-at-requires
+byte-at-requires c κs = search needs
+
+reaches-requires : tie.Need-reaches-requires
+reaches-requires c κs = search needs
+
+step-requires : tie.Need-step-requires
+step-requires c κs = search needs
+
+same-length-2 : tie.Need-same-length-2
+same-length-2 c = search needs
+
+same-length-3 : tie.Need-same-length-3
+same-length-3 c = search needs
+
+same-length-4 : tie.Need-same-length-4
+same-length-4 c = search needs
+
+same-length-5 : tie.Need-same-length-5
+same-length-5 c = search needs
+
+same-length-6 : tie.Need-same-length-6
+same-length-6 c = search needs
+
+returns-2 : tie.Need-returns-2
+unfolding readerOutcome
+returns-2 c =
+    let c-is-taken = c .before .before .before .before .before .before .before .before .before .before .before .before .before .before .before .before .before .is-taken in
+    let c-numbered = c .before .before .before .before .before .before .before .before .before .before .before .before .before .before .before .numbered in
+    let c-u16-at = c .before .before .before .before .before .before .before .before .before .before .before .before .before .before .u16-at in
+    let c-byte-at = c .before .before .before .before .before .before .before .before .before .before .before .before .byte-at in
+    let c-step = c .before .before .before .before .step in
+    let a = c .before .before .before .before .before .before .before .before .before .before .before .before .before .before .before .before .before .before .before .before .before .before .before .before .args in
+    let l : Lent = record { tables = a .tables .now; area = a .area .now; routes = a .routes .now; entries = a .entries .now } in
+    let rec = a .«record» .now in
+    let p = take (length rec - 2) (drop 2 rec) in
+    let taken = told-yes (c-is-taken .result) (c-is-taken .ensures) (c .before .before .before .before .before .before .before .before .before .before .before .before .before .before .before .before .if1 .left) in
+    let reaches = sym (c .before .before .before .before .before .before .before .before .before .before .before .reaches .ensures) ∙ c .before .before .before .before .before .before .before .before .before .before .if2 .taken in
+    let o = readerOutcome l (c-numbered .result) (a .reader) (c-u16-at .result) p in
+    let e = taken-reaches l (a .session) (c-numbered .result) (a .reader) rec p (c-u16-at .result) (c-byte-at .result) taken (c-numbered .ensures) (c-u16-at .ensures) (rest-all rec 2) (c-byte-at .ensures) reaches in
+    stepped l (a .session) (a .reader) rec (a .text .now) _ _ _ o e
+    (c-step .ensures .0, c-step .ensures .1, ap (λ (x : List ℕ). record { tables = l .tables; area = l .area; routes = l .routes; entries = x }) (c-step .ensures .2))
+
+plain-requires : tie.Need-plain-requires
+plain-requires c κs = search needs
+
+same-length-7 : tie.Need-same-length-7
+same-length-7 c = search needs
+
+same-length-8 : tie.Need-same-length-8
+same-length-8 c = search needs
+
+same-length-9 : tie.Need-same-length-9
+same-length-9 c = search needs
+
+same-length-10 : tie.Need-same-length-10
+same-length-10 c = search needs
+
+returns-3 : tie.Need-returns-3
+unfolding plainOutcome
+returns-3 c =
+    let c-is-taken = c .before .before .before .before .before .before .before .before .before .before .before .before .before .before .before .before .before .before .before .before .is-taken in
+    let c-numbered = c .before .before .before .before .before .before .before .before .before .before .before .before .before .before .before .before .before .before .numbered in
+    let c-u16-at = c .before .before .before .before .before .before .before .before .before .before .before .before .before .before .before .before .before .u16-at in
+    let c-byte-at = c .before .before .before .before .before .before .before .before .before .before .before .before .before .before .before .byte-at in
+    let c-plain = c .before .before .before .before .before .before .before .before .plain in
+    let a = c .before .before .before .before .before .before .before .before .before .before .before .before .before .before .before .before .before .before .before .before .before .before .before .before .before .before .before .args in
+    let l : Lent = record { tables = a .tables .now; area = a .area .now; routes = a .routes .now; entries = a .entries .now } in
+    let rec = a .«record» .now in
+    let p = take (length rec - 2) (drop 2 rec) in
+    let taken = told-yes (c-is-taken .result) (c-is-taken .ensures) (c .before .before .before .before .before .before .before .before .before .before .before .before .before .before .before .before .before .before .before .if1 .left) in
+    let reaches = sym (c .before .before .before .before .before .before .before .before .before .before .before .before .before .before .reaches .ensures) ∙ c .before .before .before .before .before .before .before .before .before .before .before .before .before .if2 .left in
+    let o = plainOutcome l (c-numbered .result) (a .reader) (c-u16-at .result) p in
+    let e = taken-plain l (a .session) (c-numbered .result) (a .reader) rec p (c-u16-at .result) (c-byte-at .result) taken (c-numbered .ensures) (c-u16-at .ensures) (rest-all rec 2) (c-byte-at .ensures) reaches in
+    stepped l (a .session) (a .reader) rec (a .text .now) _ _ _ o e
+    (c-plain .ensures .0, refl, rw (c-plain .ensures .1, c-plain .ensures .2, c-plain .ensures .3))
+
+pub step-spec : {M : Type 1} → statement M
+step-spec =
+    tie.close
+    (tie.spec
+    is-taken-requires
+    malformed-requires
+    same-length
+    returns
+    numbered-requires
+    u16-at-requires
+    sub-p
+    part-p-start
+    part-p-end
+    byte-at-requires
+    reaches-requires
+    step-requires
+    same-length-2
+    same-length-3
+    same-length-4
+    same-length-5
+    same-length-6
+    returns-2
+    plain-requires
+    same-length-7
+    same-length-8
+    same-length-9
+    same-length-10
+    returns-3)

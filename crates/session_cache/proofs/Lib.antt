@@ -1,0 +1,5 @@
+pub mod Laws
+pub mod AfterBad
+pub mod OneRouteMore
+pub mod LongRecords
+pub mod TextLengths
