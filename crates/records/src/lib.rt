@@ -151,8 +151,11 @@ pub fn shard_of(p: &[u8]) -> ShardIdent
     }
 }
 
+// The limits of the eight partitions; 65535 is no limit.
+pub type Limits = [u16; 8];
+
 // Eight limits of 2 bytes.
-pub fn limits_of(bytes: &[u8]) -> [u16; 8]
+pub fn limits_of(bytes: &[u8]) -> Limits
     ensures { λ r. ⌜ r ≡ limitsOf (now (bytes .entry)) ⌝ }
 {
     let mut limits = [0u16; 8];
@@ -165,7 +168,7 @@ pub fn limits_of(bytes: &[u8]) -> [u16; 8]
 }
 
 // Those of the settings.
-pub fn limits_in(p: &[u8]) -> [u16; 8]
+pub fn limits_in(p: &[u8]) -> Limits
     ensures { λ r. ⌜ r ≡ limitsIn (now (p .entry)) ⌝ }
 {
     if p.len() < 18 {

@@ -1,3 +1,4 @@
 pub mod Laws
+pub mod Ranges
 pub mod Texts
 pub mod Sample

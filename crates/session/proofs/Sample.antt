@@ -1,11 +1,8 @@
 -- Document 01's sample session, as it computes from the definition: the seven records give its seven lines; and two inputs that are refused.
 use Prim.Native.Nat.{ℕ}
 use mathlib.Core.Path.{_≡_, refl}
-use mathlib.Core.Bool.{false}
 use mathlib.Core.List.{List, [], _∷_, _++_}
 use lib.ListN.{replicate}
-use Rattle.externals_reader.specs.declared.ExternalsReader.{ExternalsReader}
-use Rattle.session_cache.specs.declared.Session.{Session}
 use Rattle.anchors_cache.specs.Calls.{addCall, addNumber, answer, closeCall, openCall, popsCall, refusal, refusalAt, valid, validCache}
 use Rattle.anchors_cache.specs.Rules.{dropStale, lastOf, rightSize, room, soundFrom, soundRow, total}
 use Rattle.anchors_cache.specs.Tables.{anchorRow, anchors, infoRow, infos, view, withMessages}
@@ -22,16 +19,10 @@ use Rattle.range_reader.specs.Rules.{advanced, anchorRead, anchorsRead, bufferO
 use Rattle.records.specs.Records.{anchorOf, asStated, authorOf, byteWithin, inPlace, limitsOf, paramsOf, recordNumber, shardOf}
 use Rattle.router.specs.Router.{firstPartition, noneTwice, partitionOf, partitionsExist, routesNumber, soundRoutes}
 use Rattle.rows.specs.Rows.{appended as rows-appended, le, numAt, rows, word, written}
+use Rattle.session.proofs.Texts.{sessionText}
 use Rattle.session.specs.Steps.{Lent, noReader, plainOutcome, reachesReader, readSaid, readText, readerEntries, readerOutcome, readerReader, readerSaid, settled as session-settled, shardDone, stepOf, takenOutcome}
 use Rattle.session_cache.specs.Said.{anchorAdded, anchorNumber, anchorSaid, areaAfter, cacheSaid, called, doName, endSaid, isRead, isTaken, judged, malformedSaid, newSession, numbered, plainArea, plainRoutes, plainSaid, plainTables, refused, tablesAfter}
 use Rattle.shard_ident.specs.Shard.{bigEndian, isOurs, isShard, lowestSet, sameAboveTag, sameBits, sameWorkchain}
-
--- each record's text, then that of the input's end
-unfoldable pub sessionText : Lent → Session → ExternalsReader → List (List ℕ) → List ℕ
-sessionText l s r [] = endSaid s false .text
-sessionText l s r (x ∷ rest) =
-    let o = stepOf l s r x in
-    o .said .text ++ sessionText (o .lent) (o .said .session) (o .reader) rest
 
 -- shard 0 with prefix 8000000000000000 (hexadecimal)
 abbrev pub shard-record : List ℕ

@@ -1,6 +1,6 @@
 -- How long a record's text is, where it is shown, and what a session says that has stopped.
 use Prim.Native.Nat.{ℕ, _+_, _/_, _≤_}
-use mathlib.Core.Path.{_≡_, refl}
+use mathlib.Core.Path.{_≡_, refl, ap, _∙_}
 use mathlib.Core.Bool.{Bool, true, false}
 use mathlib.Core.List.{List, [], _∷_, _++_}
 use native.Mathlib.Nat.{mul-div-le}
@@ -19,15 +19,13 @@ use Rattle.externals_reader.specs.Calls.{ReadAllResult, askedOfRead, allRead, r
 use Rattle.lines.specs.Lines.{places, decimal, spaced, line, entryLines, rangeLines}
 use Rattle.lines.proofs.Lengths.{line-length, entry-lines-length, range-lines-length, bad-line-length, a-text-that-fits-is-shown-whole}
 use Rattle.session_cache.specs.declared.Session.{Session}
-use Rattle.session_cache.specs.Said.{Said, told, withAt, numbered, silent, refused, judged, malformedSaid, routeSaid, anchorSaid, isRead, doName, called, cacheSaid, isTaken, plainSaid}
+use Rattle.session_cache.specs.Said.{Said, told, withAt, numbered, silent, refused, judged, malformedSaid, routeSaid, anchorSaid, isRead, doName, cacheSaid, isTaken, plainSaid, endSaid}
+use Rattle.session_cache.proofs.TextLengths.{a-plain-record-says-at-most-46-bytes, a-malformed-record-says-at-most-46-bytes}
+use Rattle.session_cache.proofs.AfterBad.{nothing-is-said-once-stopped}
+use Rattle.session.proofs.Ranges.{either}
 use Rattle.session.specs.Steps.{shardDone, settled, doneSaid, doneReader, modeOf, readText, readSaid, Lent, reachesReader, readOf, hasRoutes, readerSaid, readerReader, Outcome, readerOutcome, plainOutcome, takenOutcome, stepOf}
 
--- what holds of both holds of the one that is picked
-either : {A : Type 0} (P : A → Type 0) (b : Bool) (x y : A) → P x → P y → P (pick b x y)
-either P true x y p q = p
-either P false x y p q = q
-
--- ---- the lines but a read's
+-- ---- a record that is refused, or says nothing
 abbrev Short : Said → Type 0
 Short a = length (a .text) ≤ 46
 
@@ -42,32 +40,7 @@ judged-short : (before after : Session) (number : ℕ) → Short (judged before 
 unfolding judged
 judged-short before after number = either Short (eqb number 0) (silent after) (refused before number) (silent-short after) (refused-short before number)
 
-malformed-short : (s : Session) → Short (malformedSaid s)
-unfolding malformedSaid
-malformed-short s = either Short (s .stopped) (silent s) (refused (numbered s) 17) (silent-short s) (refused-short (numbered s) 17)
-
-name-length : (d : ℕ) → length (doName d) ≤ 8
-unfolding doName
-name-length d =
-    let P : List ℕ → Type 0 = λ l. length l ≤ 8 in
-    either P (isRead d) _ _ (omega arith)
-    (either P (eqb d 1) _ _ (omega arith)
-    (either P (eqb d 2) _ _ (omega arith) (either P (eqb d 5) _ _ (omega arith) (either P (eqb d 6) _ _ (omega arith) (omega arith)))))
-
-call-length : (d number : ℕ) → length (line (doName d) (number ∷ [])) ≤ 30
-call-length d number = let h = line-length (doName d) (number ∷ []) in let k = name-length d in omega arith
-
-cache-short : (s : Session) (n : ℕ) (tables : List ℕ) (d : ℕ) → Short (cacheSaid s n tables d)
-unfolding cacheSaid
-cache-short s n tables d = let h = call-length d (called n tables (s .cache) d .number) in omega arith
-
-plain-short : (tables area routes : List ℕ) (s : Session) (kind : ℕ) (p : List ℕ) → Short (plainSaid tables area routes s kind p)
-unfolding plainSaid anchorSaid routeSaid
-plain-short tables area routes s kind p =
-    either Short (eqb kind 4) _ _ (judged-short s _ _)
-    (either Short (eqb kind 2) _ _ (judged-short s _ _) (cache-short s (length area) tables (getD p 0 0)))
-
--- ---- a read's
+-- ---- a read
 pub a-read-keeps-the-output's-length : (tables area : List ℕ) (t : AnchorsCacheTransaction) (routes : List ℕ) (r : ExternalsReader) (mode : GetNextMessageGroupMode) (out : List ℕ)
     → length (readAllCall tables area t routes r mode out .out) ≡ length out
 unfolding readAllCall
@@ -101,7 +74,7 @@ unfolding line spaced decimal places doName isRead
 read-line = refl
 
 pub a-read's-text-fits : (a : ReadIntoBuffers) (out : List ℕ) → length out ≤ 26624 → length (a .reader .«reader_state» .ranges) ≤ 16 → length (readText a out) ≤ 113735
-unfolding readText
+unfolding readText doName isRead
 a-read's-text-fits a out h k = go (a .number) (eqb (a .number) 0) refl
   where
     entries : List ℕ
@@ -116,7 +89,7 @@ a-read's-text-fits a out h k = go (a .number) (eqb (a .number) 0) refl
         let o = ranges-length a k in
         rw (eqb-true n 0 e, length-append (line (doName 3) (0 ∷ [])) (entries ++ ranges), length-append entries ranges, read-line) (omega arith)
     go n false e =
-        let m = call-length 3 n in
+        let m = line-length (doName 3) (n ∷ []) in
         rw (length-append (line (doName 3) (n ∷ [])) []) (omega arith)
 
 -- ---- the place of the text
@@ -170,7 +143,7 @@ module _ (l : Lent) (s : Session) (r : ExternalsReader) (kind : ℕ) (p : List �
       go : (b : Bool) → length (pick b (readerOutcome l s r kind p) (plainOutcome l s r kind p) .reader .«reader_state» .ranges) ≤ 16
           → length (pick b (readerOutcome l s r kind p) (plainOutcome l s r kind p) .said .text) ≤ 113735
       go true k = reader-fits h k
-      go false k = let m = plain-short (l .tables) (l .area) (l .routes) s kind p in omega arith
+      go false k = let m = a-plain-record-says-at-most-46-bytes (l .tables) (l .area) (l .routes) s kind p in omega arith
 
 module _ (l : Lent) (s : Session) (r : ExternalsReader) (rec : List ℕ) where
   pub every-record's-text-fits : length (l .entries) ≤ 26624 → length (stepOf l s r rec .reader .«reader_state» .ranges) ≤ 16 → length (stepOf l s r rec .said .text) ≤ 113735
@@ -185,7 +158,7 @@ module _ (l : Lent) (s : Session) (r : ExternalsReader) (rec : List ℕ) where
 
       go : (b : Bool) → length (pick b taken malformed .reader .«reader_state» .ranges) ≤ 16 → length (pick b taken malformed .said .text) ≤ 113735
       go true k = taken-fits l (numbered s) r (numAt 2 0 rec) (drop 2 rec) h k
-      go false k = let m = malformed-short s in omega arith
+      go false k = let m = a-malformed-record-says-at-most-46-bytes s in omega arith
 
   -- a record's text goes to the session's place, so all of it is shown where that many bytes follow
   step-at : At (s .at) (stepOf l s r rec .said)
@@ -203,9 +176,24 @@ module _ (l : Lent) (s : Session) (r : ExternalsReader) (rec : List ℕ) where
       ≡ record { session = withAt (stepOf l s r rec .said .session) (s .at + length (stepOf l s r rec .said .text)); bytes = sets bytes (s .at) (stepOf l s r rec .said .text) }
   every-record's-text-is-shown-whole h k bytes room =
       let fits = every-record's-text-fits h k in
-      rw (step-at) (rw (a-text-that-fits-is-shown-whole (stepOf l s r rec .said .text) (record { at = s .at; bytes = bytes }) (omega arith)))
+      rw step-at (rw (a-text-that-fits-is-shown-whole (stepOf l s r rec .said .text) (record { at = s .at; bytes = bytes }) (omega arith)))
 
   -- a session that has stopped says nothing, and changes nothing
   pub nothing-is-said-after-bad : s .stopped ≡ true → stepOf l s r rec ≡ record { said = silent s; reader = r; lent = l }
-  unfolding stepOf isTaken malformedSaid
-  nothing-is-said-after-bad h = rw h
+  unfolding stepOf
+  nothing-is-said-after-bad h =
+      let silence = nothing-is-said-once-stopped s h in
+      rw (silence .no-record-is-taken rec, silence .malformed)
+
+-- ---- a session: each record's text, then that of the input's end
+unfoldable pub sessionText : Lent → Session → ExternalsReader → List (List ℕ) → List ℕ
+sessionText l s r [] = endSaid s false .text
+sessionText l s r (x ∷ rest) =
+    let o = stepOf l s r x in
+    o .said .text ++ sessionText (o .lent) (o .said .session) (o .reader) rest
+
+pub nothing-follows-bad : (l : Lent) (s : Session) (r : ExternalsReader) (records : List (List ℕ)) → s .stopped ≡ true → sessionText l s r records ≡ []
+unfolding sessionText
+nothing-follows-bad l s r [] h = ap (λ (a : Said). a .text) (nothing-is-said-once-stopped s h .end false)
+nothing-follows-bad l s r (x ∷ rest) h =
+    ap (λ (o : Outcome). o .said .text ++ sessionText (o .lent) (o .said .session) (o .reader) rest) (nothing-is-said-after-bad l s r x h) ∙ nothing-follows-bad l s r rest h

@@ -1,10 +1,8 @@
 // The records that reach the reader: the shard, the settings and the reads of all ranges.
 ghost use mathlib.Core.Path.{_≡_};
 ghost use mathlib.Core.List.{_++_};
-ghost use Prim.Native.Nat.{_≤_};
-ghost use lib.ListN.{length, take};
+ghost use lib.ListN.{take};
 ghost use Rattle.rows.specs.Rows.{wholeRows};
-ghost use Rattle.records.specs.Records.{shardOf};
 ghost use Rattle.lines.specs.Lines.{show, entryLines, rangeLines};
 ghost use Rattle.externals_reader.specs.Calls.{readAllCall};
 ghost use Rattle.session_cache.specs.Said.{told};
