@@ -8,7 +8,7 @@ use std::path::{Path, PathBuf};
 use std::{env, fs};
 
 const VAR: &str = "EXTREAD_SEEDS";
-const DEFAULT: &str = "../../shared/docs/src";
+const DEFAULT: &str = "seeds";
 /// The commit that the list of the sources must name.
 const COMMIT: &str = "0212f7255e";
 

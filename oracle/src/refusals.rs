@@ -23,15 +23,18 @@ thread_local! {
 
 /// Keeps the line of a panic in the reader's text, and says nothing of it there.
 pub fn note_panics() {
-    let default = std::panic::take_hook();
-    std::panic::set_hook(Box::new(move |info| {
-        let place = info.location();
-        if place.is_some_and(|l| l.file().ends_with(READER_FILE)) {
-            PANIC_LINE.set(place.map(|l| l.line()));
-        } else if !info.payload().is::<tracing::StepBound>() {
-            default(info);
-        }
-    }));
+    static ONCE: std::sync::Once = std::sync::Once::new();
+    ONCE.call_once(|| {
+        let default = std::panic::take_hook();
+        std::panic::set_hook(Box::new(move |info| {
+            let place = info.location();
+            if place.is_some_and(|l| l.file().ends_with(READER_FILE)) {
+                PANIC_LINE.set(place.map(|l| l.line()));
+            } else if !info.payload().is::<tracing::StepBound>() {
+                default(info);
+            }
+        }));
+    });
 }
 
 /// Makes the call on a copy of the reader (`before` as it was) and of the transaction, and

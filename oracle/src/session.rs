@@ -288,7 +288,9 @@ fn settings(input: &mut Input<'_>) -> Result<Settings, Number> {
     }
 }
 
-fn session(bytes: &[u8], opts: Opts) -> String {
+/// What a session prints.
+pub fn session(bytes: &[u8], opts: Opts) -> String {
+    note_panics();
     let mut input = Input::new(bytes);
     let head = shard(&mut input).and_then(|sh| settings(&mut input).map(|se| Kept::new(sh, &se)));
     let reader = match head {
@@ -315,7 +317,6 @@ fn session(bytes: &[u8], opts: Opts) -> String {
 /// written beside it with `.out` added. `-v` tells states on standard error;
 /// `-x` allows the records beyond `extread` (README.md).
 pub fn main(mut args: &[String]) {
-    note_panics();
     let mut opts = Opts::default();
     while let Some((first, rest)) = args.split_first() {
         match first.as_str() {

@@ -2,3 +2,4 @@ pub mod Laws
 pub mod Ranges
 pub mod Texts
 pub mod Sample
+pub mod LongRecords
