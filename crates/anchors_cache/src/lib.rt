@@ -16,6 +16,7 @@ mod tables;
 mod windows;
 
 // Where the cached anchors and the imported history stand in the tables, and the first cached message in the area, in rows and messages.
+#[repr(C)]
 pub struct AnchorsCache {
     pub first: usize,
     pub len: usize,
@@ -26,6 +27,7 @@ pub struct AnchorsCache {
 }
 
 // `undo` is what a rollback restores; it and the mark mean nothing while no transaction is open.
+#[repr(C)]
 pub struct AnchorsCacheTransaction {
     pub cache: AnchorsCache,
     pub undo: AnchorsCache,
@@ -34,6 +36,7 @@ pub struct AnchorsCacheTransaction {
 }
 
 // An anchor as it is imported, beside its messages.
+#[repr(C)]
 pub struct MempoolAnchor {
     pub id: u32,
     pub chain_time: ChainTime,
@@ -41,6 +44,7 @@ pub struct MempoolAnchor {
 }
 
 // A cached anchor; its `count` messages stand in the area from `place` on, in messages.
+#[repr(C)]
 pub struct CachedAnchor {
     pub id: u32,
     pub chain_time: ChainTime,
@@ -50,6 +54,7 @@ pub struct CachedAnchor {
 }
 
 // An entry of the imported history.
+#[repr(C)]
 pub struct AnchorInfo {
     pub id: u32,
     pub ct: ChainTime,
@@ -115,6 +120,7 @@ pub struct IdAnswer {
     pub last: FoundId,
 }
 
+#[repr(C)]
 pub struct FlagAnswer {
     pub number: u8,
     pub flag: bool,

@@ -37,7 +37,7 @@ tables-area = lent-bytes 2 0 tt ∷ lent-bytes 2 1 tt ∷ []
 
 -- and a chain time
 abbrev pub tables-area-time : List (Param 2)
-tables-area-time = lent-bytes 2 0 tt ∷ lent-bytes 2 1 tt ∷ by-value 2 Time.the-type Time′.the-laws Time′.the-copy ∷ []
+tables-area-time = lent-bytes 2 0 tt ∷ lent-bytes 2 1 tt ∷ by-value 2 Time.the-type Time′.the-laws ∷ []
 
 -- ---- what each core answers and leaves
 abbrev pub open-call : Nows tables-area → AnchorsCacheTransaction → Done

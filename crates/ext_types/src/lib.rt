@@ -4,12 +4,15 @@ ghost use Rattle.ext_types.specs.Time.{millisOf, expiredAt};
 ghost use Rattle.ext_types.specs.Keys.{keyAbove, keyEqual};
 
 // An expiry timeout in whole seconds.
+#[repr(C)]
 pub struct Seconds(pub u32);
 
 // A chain time, or a span of it, in milliseconds.
+#[repr(C)]
 pub struct ChainTime(pub u64);
 
 // The place after a message that was read: the anchor's id and how many of its messages were read.
+#[repr(C)]
 pub struct ExternalKey {
     pub anchor_id: u32,
     pub msgs_offset: u64,

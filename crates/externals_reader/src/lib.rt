@@ -28,6 +28,7 @@ pub const RANGES_CAP: usize = 16;
 pub const OPEN_RANGES_CAP: u8 = 16;
 
 // The reader's record of a partition. Where it is not present its numbers are free.
+#[repr(C)]
 pub struct ExternalsPartitionReaderState {
     pub processed_to: ExternalKey,
     pub curr_processed_offset: u32,
@@ -43,6 +44,7 @@ pub struct ExternalsReaderState {
 }
 
 // `new_is_some`: new settings wait.
+#[repr(C)]
 pub struct MsgsExecutionParams {
     pub externals_expire_timeout: Seconds,
     pub open_ranges_limit: u8,
@@ -71,11 +73,13 @@ pub struct ReaderDone {
 }
 
 // Which partitions there are.
+#[repr(C)]
 pub struct PartitionIds {
     pub number: u8,
     pub present: [bool; 8],
 }
 
+#[repr(C)]
 pub struct NextRange {
     pub number: u8,
     pub range: ExternalsRangeReaderState,

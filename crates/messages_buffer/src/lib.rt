@@ -9,6 +9,7 @@ pub const BUFFER_CAP: u32 = 1024;
 pub const NO_LIMIT: u16 = 65535;
 
 // One partition's record in a range. Where it is not present its numbers are free.
+#[repr(C)]
 pub struct ExternalsPartitionRangeReaderState {
     pub count: u32,
     pub skip_offset: u32,

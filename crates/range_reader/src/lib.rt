@@ -18,6 +18,7 @@ mod questions;
 pub const ENTRY_LEN: usize = 26;
 
 // A range; `current_position` is the place after the last message read, `to` the furthest place ever read to.
+#[repr(C)]
 pub struct ExternalsRangeReaderState {
     pub seqno: u32,
     pub from: ExternalKey,
@@ -34,6 +35,7 @@ pub enum ReadNextExternalsMode {
 }
 
 // A partition's processed position, if it has one.
+#[repr(C)]
 pub struct ProcessedTo {
     pub key: ExternalKey,
     pub present: bool,
@@ -46,6 +48,7 @@ pub enum LastChainTime {
 }
 
 // Messages of ours per partition.
+#[repr(C)]
 pub struct ReadCounts {
     pub read: [u32; 8],
     pub expired: [u32; 8],

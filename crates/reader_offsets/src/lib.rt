@@ -11,6 +11,7 @@ mod partitions;
 mod ranges;
 
 // A number for each partition that is present, and 0 for the others.
+#[repr(C)]
 pub struct ByPartitions {
     pub number: u8,
     pub values: [u32; 8],

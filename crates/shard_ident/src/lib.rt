@@ -6,6 +6,7 @@ ghost use Rattle.rows.specs.Rows.{part};
 ghost use Rattle.shard_ident.specs.Shard.{shardNumber, sameWorkchain, sameAboveTag, inShard, bigEndian, answerOf, containsAddress, containsMessage};
 
 // A part of a workchain: the accounts whose first bits are the prefix's above its lowest set bit, the tag.
+#[repr(C)]
 pub struct ShardIdent {
     pub workchain: i32,
     pub prefix: u64,

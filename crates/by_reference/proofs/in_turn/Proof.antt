@@ -26,7 +26,7 @@ use denote.Laws.{Is}
 use denote.Plain.{uint-lawful}
 use denote.Builtin.{u8}
 use denote.Ref.{RefT, now}
-use denote.Slice.{sliceVal, ShrSlice, slice-vals, shr-slice-tells, shr-slice-lawful}
+use denote.Slice.{sliceVal, ShrSlice, slice-vals, shr-slice-tells, shr-slice-lawful, shr-slice-copy}
 use denote.Signature.{plain}
 use denote.Steps.{owned, nothing}
 use denote.Struct.Laws as LL
@@ -54,8 +54,8 @@ use Rattle.by_reference.proofs.Popping as P
 use Rattle.by_reference.proofs.Trimming as R
 use Rattle.by_reference.proofs.InTurn as I
 use Rattle.by_reference.proofs.InTurn.Laws as I′
-use Rattle.by_reference.proofs.Thin.{Owned, all-twice}
-use Rattle.by_reference.proofs.Lend.{IsT, lent-call}
+use Rattle.by_reference.proofs.Thin.{Owned}
+use Rattle.by_reference.proofs.Lend.{IsT, all-twice, lent-call}
 use Rattle.by_reference.proofs.Calls.{tables-area, tables-area-time, open-call, pop-call, commit-call, rollback-call, trim-call, close-call, number-and-state, front-and-state, last-and-state}
 use Rattle.by_reference.proofs.open as open-f
 use Rattle.by_reference.proofs.open.Symbol as open-f-def
@@ -117,7 +117,9 @@ module _ {M : Type 1} (𝓤 : URA M) (H : Heap 𝓤) (A : Atoms 𝓤) (W : Given
   tok = raw (toks 𝓤 A 2 κs qs)
 
   lent-three : (κ : ℕ) → ent 𝓤 (sem 𝓤 H A Held) (⋆ 𝓤 H A (‵ Held ∷ ‵ (Owned (κ ∷ [], κs) tables-area-time (p, (q, (ct, tt)))) ∷ []))
-  lent-three κ = all-twice (κ ∷ [], κs) 𝓤 H A W tables-area-time (p, (q, (ct, tt)))
+  lent-three κ =
+      all-twice (κ ∷ [], κs) 𝓤 H A W tables-area-time
+      (shr-slice-copy 𝓤 H A W (named 0) (κs .0) u8, (shr-slice-copy 𝓤 H A W (named 1) (κs .1 .0) u8, (LL.copy Time.the-type Time′.the-copy 𝓤 H A W, tt))) (p, (q, (ct, tt)))
 
   lent-two : (κ : ℕ) → ent 𝓤 (sem 𝓤 H A Held) (⋆ 𝓤 H A (‵ Held ∷ ‵ (Owned (κ ∷ [], κs) tables-area (p, (q, tt))) ∷ []))
   lent-two κ =

@@ -1,0 +1,23 @@
+use mathlib.Core.Path.{ap, _∙_}
+use Rattle.reader_offsets.specs.Calls.{incrementCall}
+use Rattle.host.specs.Calls.{after}
+use borrow.Author.Needs.{needs}
+use Rattle.host.proofs.cores.incremented.Statement.{statement}
+use Rattle.host.proofs.cores.incremented.Tie as tie
+
+reader-of-requires : tie.Need-reader-of-requires
+reader-of-requires c κs = search needs
+
+increment-curr-processed-offset-requires : tie.Need-increment-curr-processed-offset-requires
+increment-curr-processed-offset-requires c κs = search needs
+
+after-requires : tie.Need-after-requires
+after-requires c κs = search needs
+
+returns : tie.Need-returns
+returns c = c .after .ensures ∙ ap after (c .before .increment-curr-processed-offset .ensures ∙ ap (incrementCall (c .before .before .before .args .par-id)) (c .before .before .reader-of .ensures))
+
+pub incremented-spec : {M : Type 1} → statement M
+incremented-spec =
+    tie.close
+    (tie.spec reader-of-requires increment-curr-processed-offset-requires after-requires returns)

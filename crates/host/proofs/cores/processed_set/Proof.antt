@@ -1,0 +1,23 @@
+use mathlib.Core.Path.{ap, _∙_}
+use Rattle.reader_offsets.specs.Calls.{setProcessedCall}
+use Rattle.host.specs.Calls.{after}
+use borrow.Author.Needs.{needs}
+use Rattle.host.proofs.cores.processed_set.Statement.{statement}
+use Rattle.host.proofs.cores.processed_set.Tie as tie
+
+reader-of-requires : tie.Need-reader-of-requires
+reader-of-requires c κs = search needs
+
+set-processed-to-current-position-requires : tie.Need-set-processed-to-current-position-requires
+set-processed-to-current-position-requires c κs = search needs
+
+after-requires : tie.Need-after-requires
+after-requires c κs = search needs
+
+returns : tie.Need-returns
+returns c = c .after .ensures ∙ ap after (c .before .set-processed-to-current-position .ensures ∙ ap (setProcessedCall (c .before .before .before .args .par-id)) (c .before .before .reader-of .ensures))
+
+pub processed-set-spec : {M : Type 1} → statement M
+processed-set-spec =
+    tie.close
+    (tie.spec reader-of-requires set-processed-to-current-position-requires after-requires returns)

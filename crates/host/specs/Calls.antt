@@ -1,0 +1,87 @@
+-- What the calls answer and leave, in the host's shapes.
+use Prim.Native.Nat.{ℕ}
+use mathlib.Core.Bool.{Bool}
+use mathlib.Core.List.{List}
+use lib.ListN.{length}
+use Rattle.shard_ident.specs.Shard as shard
+use Rattle.router.specs.Router.{Answer}
+use Rattle.anchors_cache.specs.declared.AnchorsCacheTransaction.{AnchorsCacheTransaction}
+use Rattle.anchors_cache.specs.declared.MempoolAnchor.{MempoolAnchor}
+use Rattle.anchors_cache.specs.declared.Done.{Done}
+use Rattle.anchors_cache.specs.declared.FlagAnswer.{FlagAnswer}
+use Rattle.anchors_cache.specs.declared.Popped.{Popped}
+use Rattle.anchors_cache.specs.declared.Trimmed.{Trimmed}
+use Rattle.anchors_cache.specs.Calls.{onZero, rowFor, addNumber, addCall}
+use Rattle.anchors_cache.specs.Windows.{addedTables, addedArea}
+use Rattle.range_reader.specs.declared.ReadExternals.{ReadExternals}
+use Rattle.range_reader.specs.Calls.{ReadResult, readCall}
+use Rattle.externals_reader.specs.declared.ReaderDone.{ReaderDone}
+use Rattle.externals_reader.specs.declared.ReadIntoBuffers.{ReadIntoBuffers}
+use Rattle.externals_reader.specs.Calls.{ReadAllResult, handedIn, newCall, readAllCall}
+use Rattle.host.specs.declared.AnchorPopped.{AnchorPopped}
+use Rattle.host.specs.declared.InfoTrimmed.{InfoTrimmed}
+use Rattle.host.specs.declared.PartitionShown.{PartitionShown}
+use Rattle.host.specs.declared.Reader.{Reader}
+use Rattle.host.specs.declared.ReaderAfter.{ReaderAfter}
+use Rattle.host.specs.declared.Externals.{Externals}
+use Rattle.host.specs.declared.AllRead.{AllRead}
+use Rattle.host.specs.declared.RangeAndCache.{RangeAndCache}
+use Rattle.host.specs.declared.RangeSettings.{RangeSettings}
+use Rattle.host.specs.declared.RangeRead.{RangeRead}
+use Rattle.host.specs.Shapes.{groupMode, rangeMode, savedTime, stateOf, readerOf, heldReader, anchorShown, infoShown}
+
+-- ---- the cache
+unfoldable pub popped : Popped → AnchorPopped
+popped p = record { answer = anchorShown (p .number) (p .front) (p .author); state = p .state }
+
+unfoldable pub trimmed : Trimmed → InfoTrimmed
+trimmed p = record { answer = infoShown (p .number) (p .last) (p .author); state = p .state }
+
+-- an added anchor: the number and the transaction, the tables and the message area
+pub record Added : Type 0 where
+  pub done : Done
+  pub tables : List ℕ
+  pub area : List ℕ
+
+unfoldable pub added : List ℕ → List ℕ → MempoolAnchor → ℕ → List ℕ → AnchorsCacheTransaction → Added
+added tables area anchor ours messages t =
+    let a = rowFor anchor ours (length messages) in
+    let number = addNumber (length area) tables t (anchor .id) ours (length messages) in
+    record {
+      done = addCall number a (length area) (length messages) tables t;
+      tables = onZero number (addedTables a (t .cache) tables) tables;
+      area = onZero number (addedArea a messages tables (t .cache) area) area;
+    }
+
+-- ---- whose a message is, and its partition
+abbrev pub oursShown : shard.Answer → FlagAnswer
+oursShown a = record { number = a .number; flag = a .ours }
+
+abbrev pub partitionShown : Answer → PartitionShown
+partitionShown a = record { number = a .number; partition = a .value }
+
+-- ---- the reader
+unfoldable pub after : ReaderDone → ReaderAfter
+after d = record { number = d .number; reader = heldReader (d .reader) }
+
+-- a reader over the state that it is handed with
+unfoldable pub entered : Reader → ReaderAfter
+entered r = after (newCall (handedIn (r .«for_shard_id») (r .«block_seqno») (r .«next_chain_time») (r .«msgs_exec_params») (r .«buffer_limits_by_partitions») (stateOf (r .«reader_state»))))
+
+-- a read of all ranges: what it answers and leaves, and the output
+abbrev pub allRead : ReadIntoBuffers → AllRead
+allRead a = record { answer = record { number = a .number; used = a .used; counts = a .counts }; state = record { transaction = a .state; reader = heldReader (a .reader) } }
+
+unfoldable pub readAll : List ℕ → List ℕ → List ℕ → List ℕ → Bool → Externals → ReadAllResult
+readAll out tables area routes refill e = readAllCall tables area (e .transaction) routes (readerOf (e .reader)) (groupMode refill) out
+
+-- one range's
+abbrev pub rangeRead : ReadExternals → RangeRead
+rangeRead a =
+    record {
+      answer = record { number = a .number; full = a .full; «last_chain_time» = savedTime (a .«last_chain_time»); pops = a .pops; used = a .used; counts = a .counts };
+      state = record { transaction = a .state; range = a .range };
+    }
+
+unfoldable pub readRange : List ℕ → List ℕ → List ℕ → List ℕ → RangeSettings → RangeAndCache → ReadResult
+readRange out tables area routes s e = readCall tables area (e .transaction) (s .shard) routes (s .limits) (s .processed) (s .timeout) (rangeMode (s .«to_previous»)) (e .range) out

@@ -1,0 +1,7 @@
+// libhost.a is made by `rt staticlib host`, in target/staticlib of the repository.
+fn main() {
+    let dir = concat!(env!("CARGO_MANIFEST_DIR"), "/../../target/staticlib");
+    println!("cargo:rustc-link-search=native={dir}");
+    println!("cargo:rustc-link-lib=static=host");
+    println!("cargo:rerun-if-changed={dir}/libhost.a");
+}

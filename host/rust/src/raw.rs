@@ -1,0 +1,50 @@
+//! The calls of `externals.h`: a slice is a pointer and a length.
+use crate::types::*;
+
+extern "C" {
+    pub fn ext_new_transaction() -> Transaction;
+    pub fn ext_open(t: *mut Transaction, tables: *const u8, tables_len: usize, area: *const u8, area_len: usize) -> u8;
+    pub fn ext_commit(t: *mut Transaction, tables: *const u8, tables_len: usize, area: *const u8, area_len: usize) -> u8;
+    pub fn ext_rollback(t: *mut Transaction, tables: *const u8, tables_len: usize, area: *const u8, area_len: usize) -> u8;
+    pub fn ext_close(t: *mut Transaction, tables: *const u8, tables_len: usize, area: *const u8, area_len: usize) -> u8;
+    pub fn ext_clear(t: *mut Transaction, tables: *const u8, tables_len: usize, area: *const u8, area_len: usize) -> u8;
+    pub fn ext_pop_front(t: *mut Transaction, tables: *const u8, tables_len: usize, area: *const u8, area_len: usize) -> AnchorShown;
+    pub fn ext_remove_last_imported_above(t: *mut Transaction, tables: *const u8, tables_len: usize, area: *const u8, area_len: usize, ct: ChainTime) -> InfoShown;
+    pub fn ext_add(t: *mut Transaction, tables: *mut u8, tables_len: usize, area: *mut u8, area_len: usize, anchor: MempoolAnchor, our_exts_count: u32, messages: *const u8, messages_len: usize) -> u8;
+    pub fn ext_last_imported_anchor_info(tables: *const u8, tables_len: usize, t: Transaction) -> InfoShown;
+    pub fn ext_last_imported_anchor_info_at_ct(tables: *const u8, tables_len: usize, t: Transaction, ct: ChainTime) -> InfoShown;
+    pub fn ext_get(tables: *const u8, tables_len: usize, t: Transaction, index: usize) -> AnchorShown;
+    pub fn ext_cache_has_pending_externals(tables: *const u8, tables_len: usize, t: Transaction) -> Flag;
+    pub fn ext_check_has_pending_externals_in_range(tables: *const u8, tables_len: usize, t: Transaction, up_to: ExternalKey) -> Flag;
+    pub fn ext_contains_message(shard: ShardIdent, message: *const u8, message_len: usize) -> Flag;
+    pub fn ext_check_routes(routes: *const u8, routes_len: usize) -> u8;
+    pub fn ext_get_partition(routes: *const u8, routes_len: usize, message: *const u8, message_len: usize) -> PartitionShown;
+    pub fn ext_new_reader(reader: *mut Reader) -> u8;
+    pub fn ext_set_buffer_limits_by_partition(reader: *mut Reader, limits: BufferLimits) -> u8;
+    pub fn ext_reset_read_state(reader: *mut Reader) -> u8;
+    pub fn ext_drop_last_read_to_anchor_chain_time(reader: *mut Reader) -> u8;
+    pub fn ext_get_partition_ids(reader: Reader) -> PartitionIds;
+    pub fn ext_create_next_externals_range_state(reader: Reader) -> NextRange;
+    pub fn ext_read_into_buffers(e: *mut State, out: *mut u8, out_len: usize, tables: *const u8, tables_len: usize, area: *const u8, area_len: usize, routes: *const u8, routes_len: usize, refill: bool) -> AllAnswer;
+    pub fn ext_read_externals_into_buffers(e: *mut RangeAndCache, out: *mut u8, out_len: usize, tables: *const u8, tables_len: usize, area: *const u8, area_len: usize, routes: *const u8, routes_len: usize, settings: RangeSettings) -> RangeAnswer;
+    pub fn ext_finalize(reader: *mut Reader) -> u8;
+    pub fn ext_retain_only_last_range_state(reader: *mut Reader) -> u8;
+    pub fn ext_set_from_to_current_position_in_last_range_state(reader: *mut Reader) -> u8;
+    pub fn ext_increment_curr_processed_offset(reader: *mut Reader, par_id: u8) -> u8;
+    pub fn ext_drop_processing_offset(reader: *mut Reader, par_id: u8, drop_skip_offset: bool) -> u8;
+    pub fn ext_set_skip_processed_offset_to_current(reader: *mut Reader, par_id: u8) -> u8;
+    pub fn ext_set_processed_to_current_position(reader: *mut Reader, par_id: u8) -> u8;
+    pub fn ext_messages_taken(reader: *mut Reader, seqno: u32, par_id: u8, taken: u32) -> u8;
+    pub fn ext_open_ranges_limit_reached(reader: Reader) -> Flag;
+    pub fn ext_has_non_zero_processed_offset(reader: Reader) -> Flag;
+    pub fn ext_last_range_offset_reached(reader: Reader, par_id: u8) -> Flag;
+    pub fn ext_last_range_offsets_reached_in_all_partitions(reader: Reader) -> Flag;
+    pub fn ext_count_messages_in_buffers_by_partitions(reader: Reader) -> ByPartitions;
+    pub fn ext_has_messages_in_buffers(reader: Reader) -> Flag;
+    pub fn ext_has_not_fully_read_ranges(reader: Reader) -> Flag;
+    pub fn ext_all_ranges_read_and_collected(reader: Reader) -> Flag;
+    pub fn ext_check_all_ranges_read_and_collected(reader: Reader) -> Flag;
+    pub fn ext_all_read_externals_collected(reader: Reader) -> Flag;
+    pub fn ext_get_last_range_state_offsets_by_partitions(reader: Reader) -> ByPartitions;
+    pub fn ext_has_pending_externals(tables: *const u8, tables_len: usize, t: Transaction, reader: Reader) -> Flag;
+}
