@@ -118,6 +118,8 @@ def refusals():
         '5_17_ranges': HEAD + full16 + [at(seqno=16, fully=1), at(seqno=17)],
         '5_cached_id_not_rising': HEAD + [cached(2, 1000, 1, [OURS]), cached(2, 1000, 1, [OURS])],
         '5_cached_ours_0': HEAD + [cached(2, 1000, 0, [OURS])],
+        '5_cached_513_messages': HEAD + [cached(2, 1000, 1, [OURS] * 513)],
+        '9_put_cached_513_messages_open': HEAD + [do(OPEN), cached(2, 1000, 1, [OURS] * 513)],
         '6_ours_above_count': HEAD + [anchor(1, 1000, 2, [OURS])],
         '6_513_messages': HEAD + [anchor(1, 1000, 1, [OURS] * 513)],
         '7_id_not_rising': HEAD + [anchor(3, 1000, 1, [OURS]), anchor(3, 1000, 1, [OURS])],

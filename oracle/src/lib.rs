@@ -15,6 +15,11 @@ mod records;
 mod refusals;
 mod session;
 
+/// The original measured beside another implementation.
+pub mod bench {
+    pub use crate::collator::messages_reader::externals_reader::hook::bench::*;
+    pub use crate::collator::messages_reader::externals_reader::hook::{RangeRecord, Settings};
+}
 pub use session::{Opts, session};
 
 /// `crate::internal_queue` around the original router.

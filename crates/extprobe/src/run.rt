@@ -256,46 +256,19 @@ fn whole(
     after
 }
 
-// A record that is too long, by its first 52 bytes; one that the input ends in is malformed.
-fn long(
-    bytes: &[u8],
-    tables: &[u8],
-    area: &[u8],
-    text: &mut [u8],
+// The input has ended, or ends inside a record.
+fn ended(
+    tables: &[u8; 14912],
+    area: &[u8; 33792],
+    text: &mut [u8; 131072],
     run: Run,
     end: usize,
-    n: usize,
-) -> Session {
-    let from = std::num::wrapping_add_usize(run.from, 4);
-    let to = std::num::wrapping_add_usize(from, 52);
-    if rows::sum_within(from, n, end) {
-        if from <= to {
-            if to <= bytes.len() {
-                let head = &bytes[from..to];
-                return session_cache::long_record(tables, area, text, run.session, head, n);
-            }
-        }
-    }
-    session_cache::end(text, run.session, true)
+) -> Run {
+    let session = session_cache::end(text, run.session, run.from < end);
+    show(tables, area, text, state::with_session(run, session))
 }
 
-// On the part of the area that is lent.
-fn long_lent(
-    bytes: &[u8],
-    tables: &[u8],
-    area: &[u8],
-    text: &mut [u8],
-    run: Run,
-    end: usize,
-    n: usize,
-) -> Session {
-    let lent = run.area;
-    if lent <= area.len() {
-        return long(bytes, tables, &area[0..lent], text, run, end, n);
-    }
-    run.session
-}
-
+// A long record is at hand whole here, unless the input ends in it.
 fn step(
     bytes: &[u8],
     end: usize,
@@ -306,16 +279,16 @@ fn step(
     run: Run,
 ) -> Run {
     let found = records::next_record(bytes, run.from, end);
+    let from = std::num::wrapping_add_usize(run.from, 4);
     match found {
         Next::Whole(at, n) => whole(bytes, tables, area, routes, text, run, at, n),
         Next::Long(n) => {
-            let session = long_lent(bytes, tables, area, text, run, end, n);
-            show(tables, area, text, state::with_session(run, session))
+            if rows::sum_within(from, n, end) {
+                return whole(bytes, tables, area, routes, text, run, from, n);
+            }
+            ended(tables, area, text, run, end)
         }
-        Next::Part => {
-            let session = session_cache::end(text, run.session, run.from < end);
-            show(tables, area, text, state::with_session(run, session))
-        }
+        Next::Part => ended(tables, area, text, run, end),
     }
 }
 

@@ -23,11 +23,12 @@ module _ (l : Lent) (s : Session) (r : ExternalsReader) (rec : List ℕ) (long :
   as-plain : isTaken s rec ≡ true → plainOutcome l (numbered s) r (numAt 2 0 rec) (drop 2 rec) ≡ asLong
   unfolding plainOutcome
   as-plain e =
-      rw
-      (a-long-record-that-is-taken-says-the-same-whole s rec long (l .tables) (l .area) (l .routes) e,
-      a-long-record-leaves-the-tables s rec long (l .tables) (l .area) (l .routes) e,
-      a-long-record-leaves-the-area s rec long (l .tables) (l .area) (l .routes) e,
-      a-long-record-leaves-the-routes s rec long (l .tables) (l .area) (l .routes) e)
+      rw (
+        a-long-record-that-is-taken-says-the-same-whole s rec long (l .tables) (l .area) (l .routes) e,
+        a-long-record-leaves-the-tables s rec long (l .tables) (l .area) (l .routes) e,
+        a-long-record-leaves-the-area s rec long (l .tables) (l .area) (l .routes) e,
+        a-long-record-leaves-the-routes s rec long (l .tables) (l .area) (l .routes) e,
+      )
 
   pub a-long-record's-step-is-what-its-first-52-bytes-say : stepOf l s r rec ≡ asLong
   unfolding stepOf

@@ -129,6 +129,20 @@ impl Externals {
         Ok(())
     }
 
+    /// State, tables and message area, to go on from kept ones. Any values and lengths are safe: a call that finds less than it needs answers 1 or 5.
+    pub fn parts_mut(&mut self) -> (&mut State, &mut Box<[u8]>, &mut Box<[u8]>) {
+        (&mut self.state, &mut self.tables, &mut self.area)
+    }
+
+    /// Rows of the history from byte 0, of the cached anchors from byte 13,312 on.
+    pub fn tables(&self) -> &[u8] {
+        &self.tables
+    }
+
+    pub fn area(&self) -> &[u8] {
+        &self.area
+    }
+
     pub fn transaction(&self) -> &Transaction {
         &self.state.transaction
     }

@@ -103,3 +103,25 @@ fn whose_and_where() {
     assert_eq!(get_partition(&route, &m), Ok(3));
     assert_eq!(check_routes(&[route.clone(), route].concat()), Err(Refused(3)));
 }
+
+#[test]
+fn parts_that_do_not_fit() {
+    let mut out = vec![9; 1024 * ENTRY_BYTES];
+    let mut e = sample();
+    *e.parts_mut().2 = Box::default();
+    assert_eq!(e.open(), Err(Refused(1)));
+    let mut e = sample();
+    *e.parts_mut().1 = Box::default();
+    assert_eq!((e.open(), e.get(0), e.pop_front()), (Err(Refused(5)), Err(Refused(5)), Err(Refused(5))));
+    let mut e = sample();
+    e.open().unwrap();
+    e.parts_mut().0.transaction.cache.first = usize::MAX;
+    assert_eq!(e.read_into_buffers(Mode::Continue, &[], &mut out).unwrap_err(), Refused(5));
+    assert_eq!(e.close(), Err(Refused(5)));
+    let mut e = sample();
+    e.open().unwrap();
+    e.parts_mut().0.reader.reader_state.len = usize::MAX;
+    assert_eq!(e.read_into_buffers(Mode::Continue, &[], &mut out).unwrap_err(), Refused(5));
+    assert_eq!((e.finalize(), e.has_messages_in_buffers()), (Err(Refused(5)), Err(Refused(5))));
+    assert!(out.iter().all(|&b| b == 9));
+}

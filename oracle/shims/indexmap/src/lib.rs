@@ -1,22 +1,26 @@
-//! Shim of `indexmap`: insertion-ordered map and set on a `Vec`, with linear search.
+//! Shim of `indexmap`: a map in the order of insertion, its entries in a `Vec` and their places in a
+//! hash map of the standard library; the set is a `Vec` with linear search.
+use std::collections::HashMap;
+use std::collections::hash_map;
+use std::hash::{BuildHasher, Hash};
 use std::marker::PhantomData;
 
 #[derive(Clone)]
 pub struct IndexMap<K, V, S> {
     items: Vec<(K, V)>,
-    _s: PhantomData<S>,
+    places: HashMap<K, usize, S>,
 }
-impl<K, V, S> Default for IndexMap<K, V, S> {
+impl<K, V, S: Default> Default for IndexMap<K, V, S> {
     fn default() -> Self {
-        Self { items: Vec::new(), _s: PhantomData }
+        Self { items: Vec::new(), places: HashMap::default() }
     }
 }
-impl<K: Eq, V, S> IndexMap<K, V, S> {
-    pub fn with_capacity_and_hasher(n: usize, _: S) -> Self {
-        Self { items: Vec::with_capacity(n), _s: PhantomData }
+impl<K: Eq + Hash + Copy, V, S: BuildHasher> IndexMap<K, V, S> {
+    pub fn with_capacity_and_hasher(n: usize, s: S) -> Self {
+        Self { items: Vec::with_capacity(n), places: HashMap::with_capacity_and_hasher(n, s) }
     }
     fn pos(&self, k: &K) -> Option<usize> {
-        self.items.iter().position(|(x, _)| x == k)
+        self.places.get(k).copied()
     }
     pub fn len(&self) -> usize {
         self.items.len()
@@ -40,32 +44,42 @@ impl<K: Eq, V, S> IndexMap<K, V, S> {
         self.items.get(i).map(|(k, v)| (k, v))
     }
     pub fn insert(&mut self, k: K, v: V) -> Option<V> {
-        match self.pos(&k) {
-            Some(i) => Some(std::mem::replace(&mut self.items[i].1, v)),
-            None => {
-                self.items.push((k, v));
+        match self.entry(k) {
+            map::Entry::Occupied(o) => Some(std::mem::replace(o.v, v)),
+            map::Entry::Vacant(vacant) => {
+                vacant.insert(v);
                 None
             }
         }
     }
     pub fn swap_remove(&mut self, k: &K) -> Option<V> {
-        self.pos(k).map(|i| self.items.swap_remove(i).1)
+        let i = self.places.remove(k)?;
+        let (_, v) = self.items.swap_remove(i);
+        if let Some((moved, _)) = self.items.get(i) {
+            self.places.insert(*moved, i);
+        }
+        Some(v)
     }
     pub fn retain(&mut self, mut f: impl FnMut(&K, &mut V) -> bool) {
         self.items.retain_mut(|(k, v)| f(k, v));
+        self.places.clear();
+        self.places.extend(self.items.iter().enumerate().map(|(i, (k, _))| (*k, i)));
     }
     pub fn entry(&mut self, k: K) -> map::Entry<'_, K, V> {
-        match self.pos(&k) {
-            Some(i) => map::Entry::Occupied(map::OccupiedEntry {
-                v: &mut self.items[i].1,
+        match self.places.entry(k) {
+            hash_map::Entry::Occupied(o) => map::Entry::Occupied(map::OccupiedEntry {
+                v: &mut self.items[*o.get()].1,
                 _k: PhantomData,
             }),
-            None => map::Entry::Vacant(map::VacantEntry { items: &mut self.items, k }),
+            hash_map::Entry::Vacant(place) => {
+                map::Entry::Vacant(map::VacantEntry { items: &mut self.items, place })
+            }
         }
     }
 }
 
 pub mod map {
+    use std::collections::hash_map;
     use std::marker::PhantomData;
     pub enum Entry<'a, K, V> {
         Occupied(OccupiedEntry<'a, K, V>),
@@ -85,11 +99,13 @@ pub mod map {
     }
     pub struct VacantEntry<'a, K, V> {
         pub(crate) items: &'a mut Vec<(K, V)>,
-        pub(crate) k: K,
+        pub(crate) place: hash_map::VacantEntry<'a, K, usize>,
     }
-    impl<'a, K, V> VacantEntry<'a, K, V> {
+    impl<'a, K: Copy, V> VacantEntry<'a, K, V> {
         pub fn insert(self, v: V) -> &'a mut V {
-            self.items.push((self.k, v));
+            let k = *self.place.key();
+            self.place.insert(self.items.len());
+            self.items.push((k, v));
             &mut self.items.last_mut().unwrap().1
         }
     }

@@ -12,6 +12,9 @@ use super::*;
 use crate::collator::anchors_cache::AnchorsCache;
 use crate::collator::messages_buffer::MessagesBuffer;
 
+#[path = "hook_bench.rs"]
+pub mod bench;
+
 pub struct Settings {
     pub next_chain_time: u64,
     pub timeout: u32,
