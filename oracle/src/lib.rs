@@ -20,6 +20,7 @@ pub mod bench {
     pub use crate::collator::messages_reader::externals_reader::hook::bench::*;
     pub use crate::collator::messages_reader::externals_reader::hook::{RangeRecord, Settings};
 }
+pub use beyond::FUNCTIONS;
 pub use session::{Opts, session};
 
 /// `crate::internal_queue` around the original router.

@@ -3,6 +3,7 @@ use std::collections::HashMap;
 use std::fmt::Write as _;
 
 use externals::*;
+use oracle::FUNCTIONS;
 
 use crate::records::{Bad, Fields, Input, Record};
 use crate::{put, Calls};
@@ -11,33 +12,6 @@ use crate::{put, Calls};
 const MOST_PLACES: usize = 16 * 1024;
 /// What the output holds before a read.
 const FILL: u8 = 0xA5;
-
-/// The names of the functions of a record 0113, by number.
-const FUNCTIONS: [&str; 23] = [
-    "",
-    "finalize",
-    "open_ranges_limit_reached",
-    "has_non_zero_processed_offset",
-    "last_range_offset_reached",
-    "last_range_offsets_reached_in_all_partitions",
-    "count_messages_in_buffers_by_partitions",
-    "has_messages_in_buffers",
-    "has_not_fully_read_ranges",
-    "all_ranges_read_and_collected",
-    "check_all_ranges_read_and_collected",
-    "all_read_externals_collected",
-    "has_pending_externals",
-    "get_last_range_state_offsets_by_partitions",
-    "retain_only_last_range_state",
-    "set_from_to_current_position_in_last_range_state",
-    "increment_curr_processed_offset",
-    "drop_processing_offset",
-    "set_skip_processed_offset_to_current",
-    "set_processed_to_current_position",
-    "reset_read_state",
-    "drop_last_read_to_anchor_chain_time",
-    "get_partition_ids",
-];
 
 struct Driver<'c> {
     e: Externals,

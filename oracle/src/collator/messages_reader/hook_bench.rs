@@ -111,24 +111,6 @@ fn router(input: &Input) -> PartitionRouter {
     PartitionRouter::with_partitions(&RouterPartitions::new(), &dst)
 }
 
-impl Kept {
-    fn reader<'x, 'c>(
-        &'x mut self,
-        tx: &'x mut AnchorsCacheTransaction<'c>,
-    ) -> ExternalsReader<'x, 'c> {
-        ExternalsReader {
-            for_shard_id: self.for_shard_id,
-            block_seqno: self.block_seqno,
-            next_chain_time: self.next_chain_time,
-            msgs_exec_params: self.msgs_exec_params.clone(),
-            buffer_limits_by_partitions: self.buffer_limits_by_partitions.clone(),
-            anchors_cache: tx,
-            reader_state: &mut self.state,
-            all_ranges_fully_read: self.all_ranges_fully_read,
-        }
-    }
-}
-
 type Processed = BTreeMap<QueuePartitionIdx, ExternalKey>;
 
 fn read_one(

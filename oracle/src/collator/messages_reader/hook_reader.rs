@@ -207,12 +207,12 @@ impl Kept {
         }
     }
 
-    fn call<R>(
-        &mut self,
-        tx: &mut AnchorsCacheTransaction<'_>,
-        f: impl FnOnce(&mut ExternalsReader<'_, '_>) -> R,
-    ) -> R {
-        let mut reader = ExternalsReader {
+    /// The original struct, put together over the fields that are kept.
+    fn reader<'x, 'c>(
+        &'x mut self,
+        tx: &'x mut AnchorsCacheTransaction<'c>,
+    ) -> ExternalsReader<'x, 'c> {
+        ExternalsReader {
             for_shard_id: self.for_shard_id,
             block_seqno: self.block_seqno,
             next_chain_time: self.next_chain_time,
@@ -221,7 +221,15 @@ impl Kept {
             anchors_cache: tx,
             reader_state: &mut self.state,
             all_ranges_fully_read: self.all_ranges_fully_read,
-        };
+        }
+    }
+
+    fn call<R>(
+        &mut self,
+        tx: &mut AnchorsCacheTransaction<'_>,
+        f: impl FnOnce(&mut ExternalsReader<'_, '_>) -> R,
+    ) -> R {
+        let mut reader = self.reader(tx);
         let res = f(&mut reader);
         let ExternalsReader { buffer_limits_by_partitions, all_ranges_fully_read, .. } = reader;
         self.buffer_limits_by_partitions = buffer_limits_by_partitions;
