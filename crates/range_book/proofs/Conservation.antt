@@ -42,7 +42,8 @@ use Rattle.range_reader.specs.Calls.{contextOf, entryOf, rangeRead, ReadResult,
 use Rattle.range_reader.proofs.Counts.{pick-both}
 use Rattle.range_reader.proofs.Numbers.{passed}
 use Rattle.range_reader.proofs.CallLaws.{zeros}
-use Rattle.range_book.proofs.Laws.{message-place, finished-place}
+use Rattle.range_reader.proofs.RefusalLaws.{never, message-place}
+use Rattle.range_book.proofs.Laws.{finished-place}
 use Rattle.range_book.proofs.Bounds.{a-read-with-number-0-does-the-six-steps}
 
 -- ---- counting per partition
@@ -251,9 +252,6 @@ module _ (x : Context) (time : ChainTime) (count : ℕ) (w : Walk) (r : RangeRea
   unfolding finished
   finished-going = go (eqb (w .number) 0) refl
     where
-      never : {A : Type 0} → true ≡ false → A
-      never e = absurd (let z : _≡_ {A = ℕ} 0 1 = cc in omega arith)
-
       P : RangeRead → Type 0
       P q = q .ended ≡ false → q .walk .number ≡ 0
 

@@ -1,5 +1,5 @@
 -- Document 01, question 11: "Does the walk move on?" It is answered "no" exactly in the one case in which the Rust loops forever.
-use Prim.Native.Nat.{ℕ, suc, zero, _+_, _-_, _≤_, _<_}
+use Prim.Native.Nat.{ℕ, zero, _+_, _-_, _≤_, _<_}
 use mathlib.Core.Path.{_≡_, refl, sym, ap, _∙_}
 use mathlib.Core.Bool.{Bool, true, false, not, _||_}
 use mathlib.Core.List.{List, [], _∷_}
@@ -19,7 +19,6 @@ use Rattle.messages_buffer.specs.declared.ExternalsPartitionRangeReaderState.{E
 use Rattle.messages_buffer.specs.Fullness.{noPartition}
 use Rattle.range_reader.specs.declared.Context.{Context}
 use Rattle.range_reader.specs.declared.Buffers.{Buffers}
-use Rattle.range_reader.specs.declared.Place.{Place}
 use Rattle.range_reader.specs.declared.Walk.{Walk}
 use Rattle.range_reader.specs.declared.RangeRead.{RangeRead}
 use Rattle.range_reader.specs.declared.ProcessedTo.{ProcessedTo}
@@ -27,35 +26,10 @@ use Rattle.range_reader.specs.declared.Verdict.{Verdict}
 use Rattle.range_reader.specs.declared.Verdict.the-variants.{Keep, Buffer, Refuse}
 use Rattle.range_reader.specs.Rules.{Outcome, silent, followed, keyAt, endReached, advanced, ends, stopped, judge, noProcessed, refusedWith, readOne, bufferOne, after, verdictOn, ourRead, messageRead, messagesRead, popped, offsetIn, lookKey, looked, expiredOver, expired, leave, afterPop, isWhole, finished, unread, walked, anchorRead}
 use Rattle.range_reader.proofs.Counts.{pick-both, stopped-full}
-use Rattle.range_book.proofs.Laws.{message-place}
+use Rattle.range_reader.proofs.RefusalLaws.{never, walk-all}
 
-never : {A : Type 0} → true ≡ false → A
-never e = absurd (let z : _≡_ {A = ℕ} 0 1 = cc in omega arith)
-
--- ---- a walk that is not stopped at its end read everything
-stopped-same : (x : Context) (w : Walk) (b : Bool) → stopped x w ≡ b → stopped x w ≡ false → b ≡ false
-stopped-same x w b e f = sym e ∙ f
-
+-- ---- the walk's own refusals are 12, 13 and 14
 module _ (x : Context) (routes : List ℕ) (time : ChainTime) where
-  message-offset : (m : List ℕ) (w : Walk) → messageRead x routes time m w .value .place .key .«msgs_offset» ≡ w .place .key .«msgs_offset» + 1
-  unfolding advanced
-  message-offset m w = ap (λ (p : Place). p .key .«msgs_offset») (message-place x routes time m w)
-
-  walk-all : (l : List (List ℕ)) (s : Outcome Walk) → stopped x (messagesRead x routes time l s .value) ≡ false → messagesRead x routes time l s .value .place .key .«msgs_offset» ≡ s .value .place .key .«msgs_offset» + length l
-  unfolding messagesRead
-  walk-all [] s = λ e. omega arith
-  walk-all (m ∷ l) s = go (λ e. walk-all l (followed s (messageRead x routes time m (s .value))) e) (stopped x (s .value)) refl
-    where
-      t : Outcome Walk
-      t = followed s (messageRead x routes time m (s .value))
-
-      go : (stopped x (messagesRead x routes time l t .value) ≡ false → messagesRead x routes time l t .value .place .key .«msgs_offset» ≡ t .value .place .key .«msgs_offset» + length l)
-          → (b : Bool) → stopped x (s .value) ≡ b → stopped x (pick b s (messagesRead x routes time l t) .value) ≡ false
-          → pick b s (messagesRead x routes time l t) .value .place .key .«msgs_offset» ≡ s .value .place .key .«msgs_offset» + suc (length l)
-      go i true h e = never (sym h ∙ e)
-      go i false h e = i e ∙ omega (arith, message-offset m (s .value))
-
-  -- ---- the walk's own refusals are 12, 13 and 14
   after-number : (v : Verdict) (p : ℕ) (w : Walk) → w .number ≡ 0 → (v ≡ Refuse 11 → ⊥) → after v x time p w .value .number ≡ 11 → ⊥
   unfolding readOne bufferOne refusedWith
   after-number Keep p w z h e = omega arith

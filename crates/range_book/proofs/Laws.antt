@@ -16,8 +16,6 @@ use Rattle.ext_types.specs.declared.ExternalKey.{ExternalKey}
 use Rattle.ext_types.specs.declared.Seconds.{Seconds}
 use Rattle.ext_types.specs.Time.{expiredAt}
 use Rattle.shard_ident.specs.declared.ShardIdent.{ShardIdent}
-use Rattle.shard_ident.specs.Shard.{isOurs}
-use Rattle.router.specs.Router.{partitionOf}
 use Rattle.messages_buffer.specs.Fullness.{rangeFull, firstNo}
 use Rattle.anchors_cache.specs.declared.AnchorsCacheTransaction.{AnchorsCacheTransaction}
 use Rattle.anchors_cache.specs.declared.AnchorsCache.{AnchorsCache}
@@ -35,13 +33,14 @@ use Rattle.range_reader.specs.declared.ReadCounts.{ReadCounts}
 use Rattle.range_reader.specs.declared.ExternalsRangeReaderState.{ExternalsRangeReaderState}
 use Rattle.range_reader.specs.declared.ProcessedTo.{ProcessedTo}
 use Rattle.range_reader.specs.declared.ReadNextExternalsMode.{ReadNextExternalsMode}
-use Rattle.range_reader.specs.Rules.{Outcome, silent, followed, advanced, stopped, refusedWith, verdictOn, ourRead, messageRead, messagesRead, popped, lookKey, looked, expired, isWhole, ends, finished, unread, walked, anchorRead, nextRead, anchorsRead}
+use Rattle.range_reader.specs.Rules.{Outcome, silent, followed, advanced, stopped, refusedWith, messageRead, messagesRead, popped, lookKey, looked, expired, isWhole, ends, finished, unread, walked, anchorRead, nextRead, anchorsRead}
 use Rattle.range_reader.specs.Calls.{askedNumber, contextOf, entryOf, refusedAnswer, doneAnswer, doneResult, rangeRead, readCall}
 use Rattle.cache_book.proofs.Free.{Agree, free-bytes, times-same}
-use Rattle.range_reader.proofs.Counts.{pick-both, after-place, within-up}
+use Rattle.range_reader.proofs.Counts.{pick-both, within-up}
 use Rattle.range_reader.proofs.AnchorLaws.{RangeKept, anchor-kept}
 use Rattle.range_reader.proofs.Numbers.{first-zero, passed}
 use Rattle.range_reader.proofs.CallLaws.{zeros}
+use Rattle.range_reader.proofs.RefusalLaws.{message-place}
 
 -- ---- the cache
 module _ (tables area : List ℕ) (t : AnchorsCacheTransaction) (shard : ShardIdent) (routes limits : List ℕ) (processed : List ProcessedTo) (timeout : Seconds) (mode : ReadNextExternalsMode) (range : ExternalsRangeReaderState) (out : List ℕ) where
@@ -68,13 +67,6 @@ module _ (x : Context) (routes : List ℕ) (id : ℕ) (time : ChainTime) (l : Li
 -- no message was read and the place is as it was, or the position is that of the last message read
 unfoldable pub Moved : Place → Place → Type 0
 Moved p q = (q ≡ p) ⊎ ((q .position ≡ q .key) × (p .key .«msgs_offset» < q .key .«msgs_offset»))
-
-pub message-place : (x : Context) (routes : List ℕ) (time : ChainTime) (m : List ℕ) (w : Walk) → messageRead x routes time m w .value .place ≡ advanced x w .place
-unfolding messageRead ourRead
-message-place x routes time m w =
-    let P : Outcome Walk → Type 0 = λ s. s .value .place ≡ advanced x w .place in
-    let p = partitionOf routes m in
-    pick-both P (isOurs (x .shard) m) (ourRead x time p (advanced x w)) (silent (advanced x w)) (after-place (verdictOn x p (advanced x w)) x time p (advanced x w)) refl
 
 moved-on : (x : Context) (w : Walk) (p : Place) → Moved p (w .place) → Moved p (advanced x w .place)
 unfolding advanced Moved

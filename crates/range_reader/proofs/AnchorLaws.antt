@@ -23,7 +23,7 @@ use Rattle.anchors_cache.proofs.Laws.{anchors-cons, anchors-none, total-more}
 use Rattle.range_reader.specs.declared.Context.{Context}
 use Rattle.range_reader.specs.declared.Walk.{Walk}
 use Rattle.range_reader.specs.declared.RangeRead.{RangeRead}
-use Rattle.range_reader.specs.Rules.{Outcome, silent, followed, ends, stopped, refusedWith, messageRead, messagesRead, expiredOne, expiredOver, fullyRead, popped, looked, expired, leave, afterPop, isWhole, finished, unread, walked, anchorRead, anchorsRead}
+use Rattle.range_reader.specs.Rules.{Outcome, silent, followed, endReached, ends, stopped, refusedWith, messageRead, messagesRead, expiredOne, expiredOver, fullyRead, popped, looked, expired, leave, afterPop, isWhole, finished, unread, walked, anchorRead, anchorsRead}
 use Rattle.range_reader.specs.Ready.{Within, Few, Wrote, RangeReady, firstUnread, readOrRefused}
 use Rattle.range_reader.proofs.Counts.{pick-same, pick-both, weaker, within-up, within-refused, message-stepped, expired-one-le}
 use Rattle.range_reader.proofs.MessageLaws.{wrote-nothing, wrote-long, wrote-more}
@@ -117,6 +117,11 @@ within-looked x k id w h = record { read = h .read; expired = h .expired; buffer
 pub looked-used : (x : Context) (id : ℕ) (w : Walk) → looked x id w .buffers .used ≡ w .buffers .used
 unfolding looked
 looked-used x id w = refl
+
+-- the saved end was judged at the key that was looked at
+pub looked-reached : (x : Context) (id : ℕ) (v w : Walk) → w ≡ looked x id v → w .place .reached ≡ endReached (w .place .key) (x .«saved_end»)
+unfolding looked
+looked-reached x id v w e = rw e
 
 module _ (x : Context) (routes : List ℕ) (id : ℕ) (time : ChainTime) (l : List (List ℕ)) (k : ℕ) (r : RangeRead) (h : Within x k (r .walk)) where
   expired-kept : RangeKept x (k + length l) (r .walk .buffers .used) (r .pops + 1) (silent (expired x time (expiredOver (x .shard) routes (unread (looked x id (r .walk)) l) (looked x id (r .walk) .counts .expired)) (looked x id (r .walk)) r))
@@ -321,8 +326,12 @@ range-start x routes tables area write out c r h n = record {
   read = refl;
 }
 
--- ---- the two runs
+-- ---- the runs
 module _ (write : Bool) (out : List ℕ) (used : ℕ) (all : Outcome RangeRead) where
+  pub written-run : all .value .walk .number ≡ 0 → (p : List ℕ) (v : RangeRead) → write ≡ true → Wrote true used out p v all → record { value = v; entries = p } ≡ readOrRefused write out used all
+  unfolding readOrRefused
+  written-run n p v w g = rw (eq-eqb (all .value .walk .number) 0 n, w, g .value, g .out)
+
   pub refused-run : (o : List ℕ) (q : RangeRead) → Wrote false used out o q all → (q .walk .number ≡ 0 → ⊥) → record { value = q; entries = o } ≡ readOrRefused write out used all
   unfolding readOrRefused
   refused-run o q h n =
@@ -338,5 +347,4 @@ module _ (write : Bool) (out : List ℕ) (used : ℕ) (all : Outcome RangeRead) 
     checked-run w = rw (eq-eqb (all .value .walk .number) 0 not-refused, w, h .value, h .out)
 
     pub done-run : (p : List ℕ) (v : RangeRead) → write ≡ true → Wrote true used o p v all → record { value = v; entries = p } ≡ readOrRefused write out used all
-    unfolding readOrRefused
-    done-run p v w g = rw (eq-eqb (all .value .walk .number) 0 not-refused, w, g .value, g .out, h .out)
+    done-run p v w g = written-run not-refused p v w (rw (h .out) at g)

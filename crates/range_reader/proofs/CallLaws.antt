@@ -91,6 +91,8 @@ module _ (tables area : List ℕ) (t : AnchorsCacheTransaction) (shard : ShardId
             placed = omega (arith, c .in-area, mul-div-le (length area) 33);
             few = record { few = c .few; within = record { read = λ i. zeros 8 i k; expired = λ i. zeros 8 i k; buffered = λ i. zeros 8 i k; full = refl } };
             pops = refl;
+            number = refl;
+            used = refl;
           })
 
       module _ (r : RangeRead) (o : List ℕ)

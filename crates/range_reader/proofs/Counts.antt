@@ -13,14 +13,13 @@ use Rattle.ext_types.specs.Keys.{keyAbove}
 use Rattle.ext_types.specs.declared.ChainTime.{ChainTime}
 use Rattle.ext_types.specs.declared.ExternalKey.{ExternalKey}
 use Rattle.messages_buffer.specs.declared.ExternalsPartitionRangeReaderState.{ExternalsPartitionRangeReaderState}
-use Rattle.messages_buffer.specs.Fullness.{rangeFull, isFull, noPartition, oneMore}
-use Rattle.messages_buffer.proofs.Laws.{no-partition-full, one-more-full, room-left}
+use Rattle.messages_buffer.specs.Fullness.{rangeFull, noPartition}
+use Rattle.messages_buffer.proofs.Laws.{no-partition-full, room-left}
 use Rattle.shard_ident.specs.Shard.{isOurs}
 use Rattle.shard_ident.specs.declared.ShardIdent.{ShardIdent}
 use Rattle.router.specs.Router.{partitionOf}
 use Rattle.range_reader.specs.declared.Context.{Context}
 use Rattle.range_reader.specs.declared.Buffers.{Buffers}
-use Rattle.range_reader.specs.declared.Filled.{Filled}
 use Rattle.range_reader.specs.declared.Walk.{Walk}
 use Rattle.range_reader.specs.declared.ProcessedTo.{ProcessedTo}
 use Rattle.range_reader.specs.declared.Verdict.{Verdict}
@@ -187,8 +186,3 @@ and-false false b h e = cc
 module _ (limits : List ℕ) (b : Buffers) (p : ℕ) (l : length limits ≡ 8) (m : length (b .«by_partitions») ≡ 8) (h : p < 8) (e : rangeFull limits (b .«by_partitions») ≡ false) (q : getD (b .«by_partitions») p noPartition .present ≡ true) where
   pub room-in : getD (b .«by_partitions») p noPartition .count + 1 ≤ getD limits p 0
   room-in = room-left _ _ (and-false (getD (b .«by_partitions») p noPartition .present) _ q (no-partition-full limits (b .«by_partitions») (l ∙ sym m) e p (omega arith)))
-
-  pub one-buffered : (f : Filled) → f ≡ record { partition = oneMore (getD (b .«by_partitions») p noPartition); full = isFull (getD (b .«by_partitions») p noPartition .count + 1) (getD limits p 0) }
-      → record { full = f .full; used = b .used + 26; «by_partitions» = set (b .«by_partitions») p (f .partition) } ≡ buffered limits p b
-  unfolding buffered
-  one-buffered f g = rw (g, one-more-full limits (b .«by_partitions») (l ∙ sym m) e p (omega arith) q)

@@ -14,8 +14,7 @@ use Rattle.shard_ident.specs.declared.ShardIdent.{ShardIdent}
 use Rattle.router.specs.Router.{partitionOf}
 use Rattle.range_reader.specs.declared.Context.{Context}
 use Rattle.range_reader.specs.declared.Walk.{Walk}
-use Rattle.range_reader.specs.declared.Verdict.the-variants.{Keep, Buffer, Refuse}
-use Rattle.range_reader.specs.Rules.{Outcome, silent, followed, advanced, stopped, refusedWith, readOne, bufferOne, entryBytes, verdictOn, ourRead, messageRead, messagesRead, expiredOne, expiredOver}
+use Rattle.range_reader.specs.Rules.{Outcome, silent, followed, stopped, more, messageRead, messagesRead, expiredOne, expiredOver}
 use Rattle.range_reader.specs.Ready.{Within, Few, Wrote}
 use Rattle.range_reader.proofs.Counts.{pick-same, message-stepped, expired-one-le}
 
@@ -32,34 +31,6 @@ pub wrote-more : (write : Bool) (start used : ℕ) (l m o es fs : List ℕ) → 
     → o ≡ pick write (sets l start (es ++ fs)) l
 wrote-more true start used l m o es fs u a b = b ∙ rw (a, u, sets-append l start es fs)
 wrote-more false start used l m o es fs u a b = b ∙ a
-
--- ---- one message
-module _ (x : Context) (time : ChainTime) (p : ℕ) (w : Walk) (write : Bool) (used : ℕ) (out : List ℕ) where
-  pub our-keep : (q : Walk) → verdictOn x p w ≡ Keep → q ≡ readOne p w → Wrote write used out out q (ourRead x time p w)
-  unfolding ourRead
-  our-keep q v e = rw v (wrote-nothing write used out q (readOne p w) e)
-
-  pub our-refused : (n : ℕ) (q : Walk) → verdictOn x p w ≡ Refuse n → q ≡ refusedWith n w → Wrote write used out out q (ourRead x time p w)
-  unfolding ourRead
-  our-refused n q v e = rw v (wrote-nothing write used out q (refusedWith n w) e)
-
-  pub our-buffer : (o : List ℕ) (b q : Walk) → verdictOn x p w ≡ Buffer → o ≡ pick write (sets out used (entryBytes (x .seqno) p (w .place .key) time)) out → b ≡ bufferOne x p w → q ≡ readOne p b
-      → Wrote write used out o q (ourRead x time p w)
-  unfolding ourRead
-  our-buffer o b q v eo eb eq = rw v (record { value = eq ∙ ap (readOne p) eb; out = eo })
-
-module _ (x : Context) (routes : List ℕ) (time : ChainTime) (m : List ℕ) (w a : Walk) (ae : a ≡ advanced x w) (write : Bool) (out o : List ℕ) where
-  pub advanced-used : a .buffers .used ≡ w .buffers .used
-  unfolding advanced
-  advanced-used = ap (λ (v : Walk). v .buffers .used) ae
-
-  pub message-ours : (p : ℕ) (q : Walk) → isOurs (x .shard) m ≡ true → p ≡ partitionOf routes m → Wrote write (a .buffers .used) out o q (ourRead x time p a) → Wrote write (w .buffers .used) out o q (messageRead x routes time m w)
-  unfolding messageRead
-  message-ours p q i e h = rw (i, sym e, sym ae, sym advanced-used) h
-
-  pub message-other : isOurs (x .shard) m ≡ false → Wrote write (w .buffers .used) out out a (messageRead x routes time m w)
-  unfolding messageRead
-  message-other i = rw i (wrote-nothing write (w .buffers .used) out a (advanced x w) ae)
 
 -- ---- the walk
 module _ (x : Context) (routes : List ℕ) (time : ChainTime) (rest : List ℕ) (at k : ℕ) (s : Outcome Walk) where
@@ -183,3 +154,11 @@ module _ (shard : ShardIdent) (routes : List ℕ) where
         small = rw (k, g) (expired-one-le shard routes (take 33 (drop at rest)) counts (1024 - left) (h .small));
         over = rw g (sym (expired-more left at rest counts p) ∙ h .over);
       }
+
+  pub expired-other : (m counts : List ℕ) → isOurs shard m ≡ false → counts ≡ expiredOne shard routes m counts
+  unfolding expiredOne
+  expired-other m counts i = sym (pick-no _ _ _ i)
+
+  pub expired-ours : (m counts : List ℕ) (p : ℕ) → isOurs shard m ≡ true → p ≡ partitionOf routes m → more counts p ≡ expiredOne shard routes m counts
+  unfolding expiredOne
+  expired-ours m counts p i e = rw e (sym (pick-yes _ _ _ i))

@@ -1,3 +1,5 @@
 pub mod Rules
 pub mod Ready
+pub mod Locals
+pub mod Refusals
 pub mod Calls

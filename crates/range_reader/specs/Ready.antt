@@ -58,6 +58,8 @@ pub record RangeReady (tables area : List ℕ) (c : AnchorsCache) (routes : List
   pub placed : 33 * (c .base + total (anchorsOf tables c)) ≤ length area
   pub few : Few x (total (anchorsOf tables c)) (r .walk)
   pub pops : r .pops ≡ 0
+  pub number : r .walk .number ≡ 0
+  pub used : r .walk .buffers .used ≡ 0
 
 -- a refused read leaves the output as it is, and so does one that does not write
 unfoldable pub readOrRefused : Bool → List ℕ → ℕ → Outcome RangeRead → Outcome RangeRead

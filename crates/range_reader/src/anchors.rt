@@ -1,12 +1,16 @@
 // The range's read over the cached anchors. The cache is seen by index; the pops are counted.
 ghost use mathlib.Core.Path.{_≡_};
+ghost use mathlib.Core.Bool.{_&&_};
 ghost use mathlib.Core.List.{[]};
 ghost use Prim.Native.Nat.{_+_, _*_, _-_, _^_, _<_, _≤_};
 ghost use lib.ListN.{length, drop};
 ghost use Rattle.rows.specs.Rows.{rows};
+ghost use Rattle.router.specs.Router.{routesNumber};
+ghost use Rattle.anchors_cache.specs.Rules.{total};
 ghost use Rattle.anchors_cache.specs.Tables.{anchors, anchorsOf, withMessages};
 ghost use Rattle.anchors_cache.specs.Calls.{anchorFound};
-ghost use Rattle.range_reader.specs.Rules.{offsetIn, looked, popped, expired, afterPop, leave, finished, anchorRead, fullyRead, anchorsRead};
+ghost use Rattle.range_reader.specs.Rules.{offsetIn, refusedWith, looked, popped, expired, afterPop, leave, finished, anchorRead, fullyRead, anchorsRead};
+ghost use Rattle.range_reader.specs.Refusals.{cannotRefuse};
 ghost use Rattle.range_reader.specs.Ready.{AnchorReady, RangeReady, Wrote, firstUnread, readOrRefused};
 use crate::Context;
 use crate::LastChainTime;
@@ -14,6 +18,7 @@ use crate::Place;
 use crate::RangeRead;
 use crate::Walk;
 use crate::messages;
+use crate::refusals;
 use anchors_cache::AnchorsCache;
 use anchors_cache::CachedAnchor;
 use anchors_cache::FoundAnchor;
@@ -136,6 +141,14 @@ fn after_pop(whole: bool, pops: usize) -> usize
     pops
 }
 
+fn refused_with(number: u8, w: Walk) -> Walk
+    ensures { λ r. ⌜ r ≡ refusedWith number w ⌝ }
+{
+    let mut r = w;
+    r.number = number;
+    r
+}
+
 // Step 6, and question 11 where nothing was popped and nothing ends the read.
 fn finished(x: Context, time: ChainTime, count: usize, w: Walk, r: RangeRead) -> RangeRead
     requires { ⌜ r .pops < 32 ⌝ }
@@ -159,7 +172,7 @@ fn finished(x: Context, time: ChainTime, count: usize, w: Walk, r: RangeRead) ->
     if whole {
         return leave(w, time, pops, r.fully_read, false);
     }
-    let refused = messages::refused_with(11, w);
+    let refused = refused_with(11, w);
     leave(refused, time, pops, r.fully_read, true)
 }
 
@@ -248,7 +261,28 @@ fn anchors_read(
     }
 }
 
-// First without writing; where that is not refused and `write` is set, once more with writing.
+// Where no question can refuse the read half-way, it is written at once.
+fn writes_at_once(
+    tables: &[u8],
+    c: AnchorsCache,
+    routes: &[u8],
+    x: Context,
+    begin: RangeRead,
+    write: bool,
+) -> bool
+    requires { ⌜ (c .first + c .len ≤ 32) × (14912 ≤ length (now tables)) × (total (anchorsOf (now tables) c) ≤ 1024) × (routesNumber (now routes) ≡ 0) ⌝ }
+    ensures { λ r. ⌜ r ≡ (write && cannotRefuse x (begin .walk .buffers .«by_partitions») (now (routes .entry)) (anchorsOf (now (tables .entry)) c)) ⌝ }
+{
+    if !write {
+        return false;
+    }
+    let w = begin.walk;
+    let buffers = w.buffers;
+    let partitions = buffers.by_partitions;
+    refusals::cannot_refuse(tables, c, routes, x, partitions)
+}
+
+// First without writing, unless it is certain that the read is not refused; where that run is not refused and `write` is set, once more with writing.
 pub(crate) fn read_or_refuse(
     tables: &[u8],
     area: &[u8],
@@ -262,6 +296,9 @@ pub(crate) fn read_or_refuse(
     requires { ⌜ RangeReady (now tables) (now area) c (now routes) x begin (now out) ⌝ }
     ensures { λ q. ⌜ record { value = q; entries = now (out .exit) } ≡ readOrRefused write (now (out .entry)) (begin .walk .buffers .used) (anchorsRead x (now (routes .entry)) (withMessages (drop (33 * c .base) (now (area .entry))) (anchorsOf (now (tables .entry)) c)) (record { value = begin; entries = [] })) ⌝ }
 {
+    if writes_at_once(tables, c, routes, x, begin, write) {
+        return anchors_read(tables, area, c, routes, x, begin, true, &mut *out);
+    }
     let dry = anchors_read(tables, area, c, routes, x, begin, false, &mut *out);
     let w = dry.walk;
     if w.number != 0 {

@@ -13,6 +13,7 @@ use shard_ident::ShardIdent;
 mod anchors;
 mod messages;
 mod questions;
+mod refusals;
 
 // Bytes of an output entry.
 pub const ENTRY_LEN: usize = 26;
@@ -96,10 +97,27 @@ pub struct Buffers {
     pub by_partitions: [ExternalsPartitionRangeReaderState; 8],
 }
 
-// A partition's buffer, and whether it is full.
-pub struct Filled {
-    pub partition: ExternalsPartitionRangeReaderState,
+// What the walk over an anchor's messages has come to beside its counts: the refusal, whether a buffer is full, the bytes used.
+pub struct Progress {
+    pub number: u8,
     pub full: bool,
+    pub used: usize,
+}
+
+// The fields of an output entry.
+pub struct Entry {
+    pub seqno: u32,
+    pub partition: usize,
+    pub key: ExternalKey,
+    pub time: ChainTime,
+}
+
+// What a message of ours changes: it counts `read` more as read and `buffered` more as buffered in its partition.
+pub struct Taken {
+    pub progress: Progress,
+    pub read: u32,
+    pub buffered: u32,
+    pub partition: ExternalsPartitionRangeReaderState,
 }
 
 pub struct Walk {
@@ -289,7 +307,7 @@ fn read_or_check(
     done_answer(range, r, state)
 }
 
-// One range's read. It runs twice: the first run writes nothing and decides the number, so that a refusal met half-way leaves the output as it is.
+// One range's read. Where a question could refuse it half-way, a first run that writes nothing decides the number, so that a refusal leaves the output as it is.
 pub fn read_externals_into_buffers(
     tables: &[u8],
     area: &[u8],

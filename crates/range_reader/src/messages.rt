@@ -8,17 +8,20 @@ ghost use lib.ListN.{length, getD};
 ghost use Rattle.rows.specs.Rows.{pick, rows};
 ghost use Rattle.shard_ident.specs.Shard.{isShard, isOurs};
 ghost use Rattle.router.specs.Router.{partitionOf, routesNumber};
-ghost use Rattle.messages_buffer.specs.Fullness.{rangeFull, noPartition, oneMore, isFull};
-ghost use Rattle.range_reader.specs.Rules.{endReached, raised, movedTo, advanced, ends, stopped, judge, more, entryBytes, buffered, readOne, bufferOne, refusedWith, ourRead, messageRead, messagesRead, expiredOne, expiredOver};
-ghost use Rattle.range_reader.specs.Ready.{Ready, Within, Few, Wrote};
+ghost use Rattle.range_reader.specs.declared.Verdict.the-variants.{Keep, Buffer, Refuse};
+ghost use Rattle.range_reader.specs.Rules.{endReached, raised, movedTo, ends, judge, messagesRead, expiredOver};
+ghost use Rattle.range_reader.specs.Ready.{Ready, Few, Wrote};
+ghost use Rattle.range_reader.specs.Locals.{stoppedAt, placeAt, progressOf, walkOf, bytesOf, verdictAt, taken, entriesOf};
 use crate::Buffers;
 use crate::Context;
 use crate::ENTRY_LEN;
-use crate::Filled;
+use crate::Entry;
 use crate::Place;
 use crate::ProcessedTo;
+use crate::Progress;
 use crate::ReadCounts;
 use crate::ReadNextExternalsMode;
+use crate::Taken;
 use crate::Verdict;
 use crate::Walk;
 use ext_types::ChainTime;
@@ -65,21 +68,19 @@ pub(crate) fn moved_to(end: ExternalKey, key: ExternalKey, p: Place) -> Place
     }
 }
 
-fn advanced(x: Context, w: Walk) -> Walk
-    requires { ⌜ w .place .key .«msgs_offset» + 1 < 2 ^ 64 ⌝ }
-    ensures { λ r. ⌜ r ≡ advanced x w ⌝ }
+// The place at an offset of the anchor: the one before the first message, or moved behind the last one read.
+fn place_at(end: ExternalKey, place: Place, offset: u64) -> Place
+    ensures { λ r. ⌜ r ≡ placeAt end place offset ⌝ }
 {
-    let p = w.place;
-    let k = p.key;
-    let next = ExternalKey {
-        anchor_id: k.anchor_id,
-        msgs_offset: k.msgs_offset + 1,
+    let old = place.key;
+    if old.msgs_offset == offset {
+        return place;
+    }
+    let key = ExternalKey {
+        anchor_id: old.anchor_id,
+        msgs_offset: offset,
     };
-    let end = x.saved_end;
-    let moved = moved_to(end, next, p);
-    let mut r = w;
-    r.place = moved;
-    r
+    moved_to(end, key, place)
 }
 
 // The saved end ends the walk.
@@ -92,19 +93,17 @@ pub(crate) fn ends(mode: ReadNextExternalsMode, reached: bool) -> bool
     }
 }
 
-fn stops(x: Context, w: Walk) -> bool
-    ensures { λ r. ⌜ r ≡ stopped x w ⌝ }
+fn stops(mode: ReadNextExternalsMode, end: ExternalKey, key: ExternalKey, b: Progress) -> bool
+    ensures { λ r. ⌜ r ≡ stoppedAt mode end key b ⌝ }
 {
-    if w.number != 0 {
+    if b.number != 0 {
         return true;
     }
-    let b = w.buffers;
     if b.full {
         return true;
     }
-    let p = w.place;
-    let mode = x.mode;
-    ends(mode, p.reached)
+    let reached = end_reached(key, end);
+    ends(mode, reached)
 }
 
 fn is_ours(shard: ShardIdent, m: &[u8]) -> bool
@@ -129,15 +128,6 @@ fn partition_of(routes: &[u8], m: &[u8]) -> usize
         return 0;
     };
     rows::byte_at(routes, ROUTE_LEN * i + MESSAGE_LEN) as usize
-}
-
-fn count_one(counts: [u32; 8], p: usize) -> [u32; 8]
-    requires { ⌜ (p < 8) × (getD counts p 0 ≤ 1024) ⌝ }
-    ensures { λ r. ⌜ r ≡ more counts p ⌝ }
-{
-    let mut r = counts;
-    r[p] = counts[p] + 1;
-    r
 }
 
 // What becomes of a message of ours at a key: questions 12, 13 and 14.
@@ -165,156 +155,152 @@ fn judged(
     Verdict::Buffer
 }
 
-pub(crate) fn refused_with(number: u8, w: Walk) -> Walk
-    ensures { λ r. ⌜ r ≡ refusedWith number w ⌝ }
+fn kept(partition: ExternalsPartitionRangeReaderState, b: Progress) -> Taken
+    ensures { λ r. ⌜ ((limit : ℕ) → r ≡ taken Keep limit partition b) ⌝ }
 {
-    let mut r = w;
-    r.number = number;
-    r
+    Taken {
+        progress: b,
+        read: 1,
+        buffered: 0,
+        partition: partition,
+    }
 }
 
-fn read_one(p: usize, w: Walk) -> Walk
-    requires { ⌜ (p < 8) × (getD (w .counts .read) p 0 ≤ 1024) ⌝ }
-    ensures { λ r. ⌜ r ≡ readOne p w ⌝ }
+fn refused(n: u8, partition: ExternalsPartitionRangeReaderState, b: Progress) -> Taken
+    ensures { λ r. ⌜ ((limit : ℕ) → r ≡ taken (Refuse n) limit partition b) ⌝ }
 {
-    let c = w.counts;
-    let old = c.read;
-    let read = count_one(old, p);
-    let mut counts = c;
-    counts.read = read;
-    let mut r = w;
-    r.counts = counts;
-    r
+    let progress = Progress {
+        number: n,
+        full: b.full,
+        used: b.used,
+    };
+    Taken {
+        progress: progress,
+        read: 0,
+        buffered: 0,
+        partition: partition,
+    }
 }
 
 // The buffer has room, so one more is within its limit.
-fn one_more(partition: ExternalsPartitionRangeReaderState, limit: u16) -> Filled
-    requires { ⌜ partition .count + 1 ≤ limit ⌝ }
-    ensures { λ r. ⌜ r ≡ record { partition = oneMore partition; full = isFull (partition .count + 1) limit } ⌝ }
+fn buffered(limit: u16, partition: ExternalsPartitionRangeReaderState, b: Progress) -> Taken
+    requires { ⌜ (partition .count + 1 ≤ limit) × (b .used + 26 < 2 ^ 64) ⌝ }
+    ensures { λ r. ⌜ r ≡ taken Buffer limit partition b ⌝ }
 {
     let mut next = partition;
     next.count = partition.count + 1;
     let full = messages_buffer::check_is_filled(next.count, limit);
-    Filled {
-        partition: next,
+    let progress = Progress {
+        number: b.number,
         full: full,
+        used: b.used + ENTRY_LEN,
+    };
+    Taken {
+        progress: progress,
+        read: 1,
+        buffered: 1,
+        partition: next,
     }
-}
-
-// The partition's buffer with one message more. No buffer was full, so this one alone decides whether one is full now.
-fn buffered(limits: [u16; 8], p: usize, b: Buffers) -> Buffers
-    requires { ⌜ (p < 8) × (rangeFull limits (b .«by_partitions») ≡ false) × (getD (b .«by_partitions») p noPartition .present ≡ true) × (b .used + 26 < 2 ^ 64) ⌝ }
-    ensures { λ r. ⌜ r ≡ buffered limits p b ⌝ }
-{
-    let partition = b.by_partitions[p];
-    let filled = one_more(partition, limits[p]);
-    let next = filled.partition;
-    let mut r = b;
-    r.full = filled.full;
-    r.used = b.used + ENTRY_LEN;
-    r.by_partitions[p] = next;
-    r
-}
-
-fn buffer_one(x: Context, p: usize, w: Walk) -> Walk
-    requires { ⌜ (p < 8) × (getD (w .counts .buffered) p 0 ≤ 1024) × (rangeFull (x .limits) (w .buffers .«by_partitions») ≡ false) × (getD (w .buffers .«by_partitions») p noPartition .present ≡ true) × (w .buffers .used + 26 < 2 ^ 64) ⌝ }
-    ensures { λ r. ⌜ r ≡ bufferOne x p w ⌝ }
-{
-    let limits = x.limits;
-    let b = w.buffers;
-    let buffers = buffered(limits, p, b);
-    let c = w.counts;
-    let old = c.buffered;
-    let added = count_one(old, p);
-    let mut counts = c;
-    counts.buffered = added;
-    let mut r = w;
-    r.buffers = buffers;
-    r.counts = counts;
-    r
 }
 
 // An output entry: seqno, partition, anchor id, offset after reading, the anchor's chain time.
-fn put_entry(out: &mut [u8], at: usize, seqno: u32, p: usize, key: ExternalKey, time: ChainTime)
+fn put_entry(out: &mut [u8], at: usize, e: Entry)
     requires { ⌜ at + 26 ≤ length (now out) ⌝ }
-    ensures { λ _. ⌜ now (out .exit) ≡ sets (now (out .entry)) at (entryBytes seqno p key time) ⌝ }
+    ensures { λ _. ⌜ now (out .exit) ≡ sets (now (out .entry)) at (bytesOf e) ⌝ }
 {
-    let seqno = seqno as u64;
-    let p = p as u64;
-    let id = key.anchor_id as u64;
-    let offset = key.msgs_offset;
-    let time = time.0;
-    rows::put_le(&mut *out, at, seqno, 4);
-    rows::put_le(&mut *out, at + 4, p, 2);
-    rows::put_le(&mut *out, at + 6, id, 4);
-    rows::put_le(&mut *out, at + 10, offset, 8);
-    rows::put_le(&mut *out, at + 18, time, 8);
+    let key = e.key;
+    let time = e.time;
+    rows::put_le(&mut *out, at, e.seqno as u64, 4);
+    rows::put_le(&mut *out, at + 4, e.partition as u64, 2);
+    rows::put_le(&mut *out, at + 6, key.anchor_id as u64, 4);
+    rows::put_le(&mut *out, at + 10, key.msgs_offset, 8);
+    rows::put_le(&mut *out, at + 18, time.0, 8);
 }
 
 // An entry, where the run writes.
-fn put_if(
-    write: bool,
-    out: &mut [u8],
-    at: usize,
-    seqno: u32,
-    p: usize,
-    key: ExternalKey,
-    time: ChainTime,
-)
+fn put_if(write: bool, out: &mut [u8], at: usize, e: Entry)
     requires { ⌜ at + 26 ≤ length (now out) ⌝ }
-    ensures { λ _. ⌜ now (out .exit) ≡ pick write (sets (now (out .entry)) at (entryBytes seqno p key time)) (now (out .entry)) ⌝ }
+    ensures { λ _. ⌜ now (out .exit) ≡ pick write (sets (now (out .entry)) at (bytesOf e)) (now (out .entry)) ⌝ }
 {
     if write {
-        put_entry(out, at, seqno, p, key, time);
+        put_entry(out, at, e);
     }
 }
 
-// A message of ours, of partition p, read at the walk's key.
-fn our_read(x: Context, time: ChainTime, p: usize, w: Walk, write: bool, out: &mut [u8]) -> Walk
-    requires { ⌜ (p < 8) × (length (now out) ≡ x .room) × Within x 1023 w × (w .buffers .full ≡ false) ⌝ }
-    ensures { λ r. ⌜ Wrote write (w .buffers .used) (now (out .entry)) (now (out .exit)) r (ourRead x time p w) ⌝ }
-{
-    let processed = x.processed[p];
-    let b = w.buffers;
-    let partition = b.by_partitions[p];
-    let place = w.place;
-    let key = place.key;
-    let used = b.used;
-    let room = rows::sum_within(used, ENTRY_LEN, x.room);
-    let v = judged(processed, partition, key, room);
-    match v {
-        Verdict::Keep => read_one(p, w),
-        Verdict::Buffer => {
-            put_if(write, out, used, x.seqno, p, key, time);
-            let added = buffer_one(x, p, w);
-            read_one(p, added)
-        }
-        Verdict::Refuse(n) => refused_with(n, w),
-    }
-}
-
-fn message_read(
-    x: Context,
-    routes: &[u8],
-    time: ChainTime,
-    m: &[u8],
-    w: Walk,
+// A message of ours: what becomes of it, and its entry.
+fn our_read(
+    e: Entry,
+    processed: ProcessedTo,
+    limit: u16,
+    partition: ExternalsPartitionRangeReaderState,
+    b: Progress,
+    room: usize,
     write: bool,
     out: &mut [u8],
-) -> Walk
-    requires { ⌜ Ready x (now routes) (now out) × (length (now m) ≡ 33) × (w .place .key .«msgs_offset» + 1 < 2 ^ 64) × Within x 1023 w × (w .buffers .full ≡ false) ⌝ }
-    ensures { λ r. ⌜ Wrote write (w .buffers .used) (now (out .entry)) (now (out .exit)) r (messageRead x (now (routes .entry)) time (now (m .entry)) w) ⌝ }
+) -> Taken
+    requires { ⌜ (length (now out) ≡ room) × (partition .present ≡ true → partition .count + 1 ≤ limit) ⌝ }
+    ensures { λ r. ⌜ (r ≡ taken (verdictAt processed partition (e .key) b room) limit partition b) × (now (out .exit) ≡ pick write (sets (now (out .entry)) (b .used) (entriesOf (verdictAt processed partition (e .key) b room) e)) (now (out .entry))) ⌝ }
 {
-    let next = advanced(x, w);
-    let shard = x.shard;
-    if is_ours(shard, m) {
-        let p = partition_of(routes, m);
-        return our_read(x, time, p, next, write, out);
+    let used = b.used;
+    let key = e.key;
+    let has_room = rows::sum_within(used, ENTRY_LEN, room);
+    let v = judged(processed, partition, key, has_room);
+    match v {
+        Verdict::Keep => kept(partition, b),
+        Verdict::Buffer => {
+            put_if(write, out, used, e);
+            buffered(limit, partition, b)
+        }
+        Verdict::Refuse(n) => refused(n, partition, b),
     }
-    next
 }
 
-// The n messages of the rest of an anchor, in order, until the walk is stopped.
+fn progress_of(w: Walk) -> Progress
+    ensures { λ r. ⌜ r ≡ progressOf w ⌝ }
+{
+    let b = w.buffers;
+    Progress {
+        number: w.number,
+        full: b.full,
+        used: b.used,
+    }
+}
+
+// The walk that the loop's locals stand for.
+fn walk_of(
+    start: Walk,
+    end: ExternalKey,
+    offset: u64,
+    b: Progress,
+    partitions: [ExternalsPartitionRangeReaderState; 8],
+    read: [u32; 8],
+    buffered: [u32; 8],
+) -> Walk
+    ensures { λ r. ⌜ r ≡ walkOf start end offset b partitions read buffered ⌝ }
+{
+    let before = start.place;
+    let place = place_at(end, before, offset);
+    let old = start.counts;
+    let expired = old.expired;
+    let buffers = Buffers {
+        full: b.full,
+        used: b.used,
+        by_partitions: partitions,
+    };
+    let counts = ReadCounts {
+        read: read,
+        expired: expired,
+        buffered: buffered,
+    };
+    Walk {
+        number: b.number,
+        place: place,
+        buffers: buffers,
+        counts: counts,
+    }
+}
+
+// The n messages of the rest of an anchor, in order, until the walk is stopped. The walk's arrays are locals that are changed in place; its place follows from the offset.
 pub(crate) fn messages_read(
     x: Context,
     routes: &[u8],
@@ -325,33 +311,72 @@ pub(crate) fn messages_read(
     write: bool,
     out: &mut [u8],
 ) -> Walk
-    requires { ⌜ Ready x (now routes) (now out) × (33 * n ≤ length (now rest)) × (start .place .key .«msgs_offset» + n < 2 ^ 64) × Few x n start ⌝ }
+    requires { ⌜ Ready x (now routes) (now out) × (33 * n ≤ length (now rest)) × (start .place .key .«msgs_offset» + n < 2 ^ 64) × Few x n start × (start .place .reached ≡ endReached (start .place .key) (x .«saved_end»)) ⌝ }
     ensures { λ r. ⌜ Wrote write (start .buffers .used) (now (out .entry)) (now (out .exit)) r (messagesRead x (now (routes .entry)) time (rows 33 n (now (rest .entry))) (record { value = start; entries = [] })) ⌝ }
 {
-    let mut w = start;
+    let place = start.place;
+    let buffers = start.buffers;
+    let counts = start.counts;
+    let mut key = place.key;
+    let mut b = progress_of(start);
+    let mut partitions = buffers.by_partitions;
+    let mut read = counts.read;
+    let mut buffered = counts.buffered;
     let mut at = 0;
     let mut left = n;
     while 0 < left {
-        if stops(x, w) {
-            return w;
+        if stops(x.mode, x.saved_end, key, b) {
+            return walk_of(
+                start,
+                x.saved_end,
+                key.msgs_offset,
+                b,
+                partitions,
+                read,
+                buffered,
+            );
         }
         let m = &rest[at..at + MESSAGE_LEN];
-        w = message_read(x, routes, time, m, w, write, &mut *out);
+        key.msgs_offset = key.msgs_offset + 1;
         at += MESSAGE_LEN;
         left -= 1;
-    }
-    w
-}
-
-fn expired_one(shard: ShardIdent, routes: &[u8], m: &[u8], counts: [u32; 8]) -> [u32; 8]
-    requires { ⌜ (isShard shard ≡ true) × (routesNumber (now routes) ≡ 0) × (length (now m) ≡ 33) × ((i : ℕ) → getD counts i 0 ≤ 1023) ⌝ }
-    ensures { λ r. ⌜ r ≡ expiredOne shard (now (routes .entry)) (now (m .entry)) counts ⌝ }
-{
-    if is_ours(shard, m) {
+        if !is_ours(x.shard, m) {
+            continue;
+        }
         let p = partition_of(routes, m);
-        return count_one(counts, p);
+        let e = Entry {
+            seqno: x.seqno,
+            partition: p,
+            key: key,
+            time: time,
+        };
+        let processed = x.processed[p];
+        let partition = partitions[p];
+        let t = our_read(
+            e,
+            processed,
+            x.limits[p],
+            partition,
+            b,
+            x.room,
+            write,
+            &mut *out,
+        );
+        let next = t.partition;
+        read[p] = read[p] + t.read;
+        buffered[p] = buffered[p] + t.buffered;
+        partitions[p] = next;
+        b = t.progress;
     }
-    counts
+    walk_of(
+        start,
+        x.saved_end,
+        key.msgs_offset,
+        b,
+        partitions,
+        read,
+        buffered,
+    )
 }
 
 // The messages of ours among n of an expired anchor, counted per partition.
@@ -370,10 +395,13 @@ pub(crate) fn count_expired(
     let mut left = n;
     while 0 < left {
         let m = &rest[at..at + MESSAGE_LEN];
-        let next = expired_one(shard, routes, m, counts);
-        counts = next;
         at += MESSAGE_LEN;
         left -= 1;
+        if !is_ours(shard, m) {
+            continue;
+        }
+        let p = partition_of(routes, m);
+        counts[p] = counts[p] + 1;
     }
     counts
 }

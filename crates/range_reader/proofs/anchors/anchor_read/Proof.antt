@@ -2,7 +2,7 @@
 use lib.ListN.{length-take, length-drop}
 use Rattle.range_reader.specs.Rules.{looked}
 use Rattle.range_reader.proofs.Counts.{weaker, within-up}
-use Rattle.range_reader.proofs.AnchorLaws.{anchor-popped, anchor-expired, anchor-walked, within-looked}
+use Rattle.range_reader.proofs.AnchorLaws.{anchor-popped, anchor-expired, anchor-walked, within-looked, looked-reached}
 use Prim.Native.Nat.{_-_}
 use mathlib.Core.Path.{sym, _∙_}
 use native.Mathlib.Omega.{arith}
@@ -119,7 +119,7 @@ messages-read-requires c κs =
     let p = c-pre .placed in
     let f = c-first-unread .ensures .1 in
     let n = c-pre .few .few in
-    (c-pre .fixed, simp (length-take, length-drop) (omega arith), c-first-unread .ensures .2, record { few = omega arith; within = rw (c .before .before .before .before .before .before .before .before .before .before .before .before .looked .ensures) (within-up (c-args .x) (1024 - c-args .a .count) _ (within-looked (c-args .x) _ (c-args .a .id) (c-args .r .walk) (c-pre .few .within)) _ (omega arith)) })
+    (c-pre .fixed, simp (length-take, length-drop) (omega arith), c-first-unread .ensures .2, record { few = omega arith; within = rw (c .before .before .before .before .before .before .before .before .before .before .before .before .looked .ensures) (within-up (c-args .x) (1024 - c-args .a .count) _ (within-looked (c-args .x) _ (c-args .a .id) (c-args .r .walk) (c-pre .few .within)) _ (omega arith)) }, looked-reached (c-args .x) (c-args .a .id) (c-args .r .walk) _ (c .before .before .before .before .before .before .before .before .before .before .before .before .looked .ensures))
 
 finished-requires : tie.Need-finished-requires
 finished-requires c κs = c .before .before .before .before .before .before .before .before .before .before .before .before .before .before .before .before .before .before .before .before .before .before .before .pre .pops

@@ -1,90 +1,181 @@
--- The invariant says that what is left to walk comes to the whole walk, with the entries written so far.
-use lib.ListN.{length-take, length-drop}
-use Rattle.range_reader.proofs.Counts.{within-up, stopped-full}
-use Rattle.range_reader.proofs.MessageLaws.{Turn, turn-start, turn-next, turn-stop, turn-none}
+-- The invariant says that what is left to walk comes to the whole walk, with the entries written so far; the walk is what the locals stand for.
+use Rattle.range_reader.proofs.LocalLaws.{LocalTurn, locals-start, locals-fit, locals-stopped, locals-other, locals-room, locals-ours, taken-once}
+use lib.ListN.{length-take, length-drop, length-map}
+use Rattle.range_reader.proofs.MessageLaws.{turn-stop, turn-none}
+use Rattle.range_reader.specs.Locals.{walkOf}
 use borrow.Author.Needs.{needs}
 use Prim.Native.Nat.{_-_}
-use mathlib.Core.Path.{sym, _∙_}
+use mathlib.Core.Path.{_≡_, refl, sym, _∙_}
 use native.Mathlib.Omega.{arith}
+use lib.ListN.{length}
+use borrow.Author.Tests.{not-true, not-false}
 use Rattle.range_reader.proofs.messages.messages_read.Statement.{statement}
 use Rattle.range_reader.proofs.messages.messages_read.Tie as tie
 
 abbrev Inv-loop : tie.InvT-loop
-Inv-loop x routes time rest n write out₀ w₀ at₀ left₀ out w at left =
-    Turn x routes time rest n write out₀ w₀ out w at left
+Inv-loop routes time rest n start write out₀ x key₀ b₀ partitions₀ read₀ buffered₀ at₀ left₀ out key b partitions read buffered at left = LocalTurn x routes time rest n write out₀ start out key b partitions read buffered at left
 
 abbrev μ-loop : tie.MeasureT-loop
-μ-loop x routes time rest n write out₀ w₀ at₀ left₀ out w at left = left
+μ-loop routes time rest n start write out₀ x key₀ b₀ partitions₀ read₀ buffered₀ at₀ left₀ out key b partitions read buffered at left = left
+
+progress-of-requires : tie.Need-progress-of-requires Inv-loop μ-loop
+progress-of-requires c κs = search needs
 
 loop-holds : tie.Need-loop-holds Inv-loop μ-loop
 loop-holds c =
-    let c-args = c .before .before .before .args in
-    let c-pre = c .before .before .before .pre in
-    turn-start (c-args .x) (c-args .routes .now) (c-args .time) (c-args .rest .now) (c-args .n) (c-args .write) (c-args .out .now) (c-args .start) (c-pre .1) (c-pre .2) (c-pre .3)
+    let c-args = c .before .before .before .before .before .before .before .before .before .before .before .args in
+    let c-pre = c .before .before .before .before .before .before .before .before .before .before .before .pre in
+    let g = c .before .before .before .before .before .before .before .before .before .before .before .good .1 .1 .1 .1 .1 .0 in
+    let p : length (c-args .start .buffers .«by_partitions») ≡ 8 = sym (length-map (c-args .start .buffers .«by_partitions») _) ∙ g .1 .1 .1 .1 .0 .1 .1 .1 .1 .0 .1 .0 .1 in
+    let k = g .1 .1 .1 .1 .1 .0 in
+    let r : length (c-args .start .counts .read) ≡ 8 = sym (length-map (c-args .start .counts .read) _) ∙ k .1 .1 .0 .1 .0 .1 in
+    let s : length (c-args .start .counts .buffered) ≡ 8 = sym (length-map (c-args .start .counts .buffered) _) ∙ k .1 .1 .1 .1 .0 .1 .0 .1 in
+    locals-start (c-args .t1) (c-args .routes .now) (c-args .time) (c-args .rest .now) (c-args .n) (c-args .write) (c-args .out .now) (c-args .start) (c-pre .1) (c-pre .2) (c-pre .3) p r s _ (c .before .before .before .progress-of .ensures)
 
 stops-requires : tie.Need-stops-requires Inv-loop μ-loop
 stops-requires c κs = search needs
 
+walk-of-requires : tie.Need-walk-of-requires Inv-loop μ-loop
+walk-of-requires c κs = search needs
+
 same-length : tie.Need-same-length Inv-loop μ-loop
-same-length c = c .before .before .before .loop .inv .long
+same-length c = c .before .before .before .before .before .before .loop .inv .turn .long
 
 returns : tie.Need-returns Inv-loop μ-loop
 returns c =
-    let c-args = c .before .before .before .before .before .before .before .args in
-    let l = c .before .before .before .loop in
-    turn-stop (c-args .x) (c-args .routes .now) (c-args .time) (c-args .rest .now) (c-args .n) (c-args .write) (c-args .out .now) (c-args .start) (l .out) (l .w) (l .at) (l .left) (l .inv) (sym (c .before .stops .ensures) ∙ c .if1 .taken)
+    let c-args = c .before .before .before .before .before .before .before .before .before .before .before .before .before .before .before .before .before .before .args in
+    let c-loop = c .before .before .before .before .before .before .loop in
+    rw (c .walk-of .ensures) (turn-stop (c-args .t1) (c-args .routes .now) (c-args .time) (c-args .rest .now) (c-args .n) (c-args .write) (c-args .out .now) (c-args .start) (c-loop .out) (walkOf (c-args .start) (c-args .t1 .«saved_end») (c-loop .key .«msgs_offset») (c-loop .b) (c-loop .partitions) (c-loop .read) (c-loop .buffered)) (c-loop .at) (c-loop .left) (c-loop .inv .turn) (locals-stopped (c-args .t1) (c-args .routes .now) (c-args .time) (c-args .rest .now) (c-args .n) (c-args .write) (c-args .out .now) (c-args .start) (c-loop .out) (c-loop .key) (c-loop .b) (c-loop .partitions) (c-loop .read) (c-loop .buffered) (c-loop .at) (c-loop .left) (c-loop .inv) (c .before .before .before .before .before .before .before .before .before .before .before .before .before .before .before .before .before .before .pre .4) _ (c .before .before .before .stops .ensures) ∙ c .before .before .if1 .taken))
 
 add-m : tie.Need-add-m Inv-loop μ-loop
-add-m c = search needs
+add-m c = omega (arith, c .before .before .before .before .loop .inv .turn .bytes, c .before .before .before .loop-test .taken)
 
 sub-m : tie.Need-sub-m Inv-loop μ-loop
-sub-m c = search needs
+sub-m c = omega (arith, c .before .before .before .before .loop .inv .turn .bytes)
 
 part-m-start : tie.Need-part-m-start Inv-loop μ-loop
-part-m-start c = search needs
+part-m-start c = omega (arith, c .before .before .before .before .loop .inv .turn .bytes)
 
 part-m-end : tie.Need-part-m-end Inv-loop μ-loop
-part-m-end c = search needs
+part-m-end c = omega (arith, c .before .before .before .before .loop .inv .turn .bytes, c .before .before .before .loop-test .taken)
 
-message-read-requires : tie.Need-message-read-requires Inv-loop μ-loop
-message-read-requires c κs =
-    let c-pre = c .before .before .before .before .before .before .before .before .before .pre in
-    let c-args = c .before .before .before .before .before .before .before .before .before .args in
-    let l = c .before .before .before .before .before .loop in
-    let i = l .inv in
-    let b = i .bytes in
-    let f = i .fits in
-    let p = c .before .before .before .before .loop-test .taken in (
-      record { shard-sound = c-pre .0 .shard-sound; routes-sound = c-pre .0 .routes-sound; room = i .long ∙ c-pre .0 .room },
-      simp (length-take, length-drop) (omega arith),
-      omega arith,
-      within-up (c-args .x) (1024 - l .left) (l .w) (i .within) 1023 (omega (arith, i .few)),
-      stopped-full (c-args .x) (l .w) (sym (c .before .before .before .stops .ensures) ∙ c .before .before .if1 .left),
-    )
+add-key : tie.Need-add-key Inv-loop μ-loop
+add-key c =
+    let c-args = c .before .before .before .before .before .before .before .before .before .before .before .before .before .before .before .before .before .before .args in
+    let c-loop = c .before .before .before .before .before .before .loop in
+    omega (arith, locals-fit (c-args .t1) (c-args .routes .now) (c-args .time) (c-args .rest .now) (c-args .n) (c-args .write) (c-args .out .now) (c-args .start) (c-loop .out) (c-loop .key) (c-loop .b) (c-loop .partitions) (c-loop .read) (c-loop .buffered) (c-loop .at) (c-loop .left) (c-loop .inv), c .before .before .before .before .before .loop-test .taken)
 
 add-at : tie.Need-add-at Inv-loop μ-loop
-add-at c = omega (arith, c .before .before .before .before .before .before .before .before .loop .inv .near, c .before .before .before .before .before .before .before .loop-test .taken)
+add-at c = omega (arith, c .before .before .before .before .before .before .loop .inv .turn .near, c .before .before .before .before .before .loop-test .taken)
 
 sub-left : tie.Need-sub-left Inv-loop μ-loop
-sub-left c = search needs
+sub-left c = omega (arith, c .before .before .before .before .before .loop-test .taken)
+
+is-ours-requires : tie.Need-is-ours-requires Inv-loop μ-loop
+is-ours-requires c κs = c .before .before .before .before .before .before .before .before .before .before .before .before .before .before .before .before .before .before .before .pre .0 .shard-sound
 
 loop-less : tie.Need-loop-less Inv-loop μ-loop
-loop-less c = search needs
+loop-less c = omega (arith, c .before .before .before .before .before .before .before .before .loop-test .taken)
 
 loop-again : tie.Need-loop-again Inv-loop μ-loop
 loop-again c =
-    let c-args = c .before .before .before .before .before .before .before .before .before .before .before .before .args in
-    let l = c .before .before .before .before .before .before .before .before .loop in
-    turn-next (c-args .x) (c-args .routes .now) (c-args .time) (c-args .rest .now) (c-args .n) (c-args .write) (c-args .out .now) (c-args .start) (l .out) (l .w) (l .at) (l .left) (l .inv) _ _ (c .before .before .before .before .before .before .before .loop-test .taken) (sym (c .before .before .before .before .before .before .stops .ensures) ∙ c .before .before .before .before .before .if1 .left) (c .before .before .message-read .ensures)
+    let c-args = c .before .before .before .before .before .before .before .before .before .before .before .before .before .before .before .before .before .before .before .before .before .args in
+    let c-loop = c .before .before .before .before .before .before .before .before .before .loop in
+    locals-other (c-args .t1) (c-args .routes .now) (c-args .time) (c-args .rest .now) (c-args .n) (c-args .write) (c-args .out .now) (c-args .start) (c-loop .out) (c-loop .key) (c-loop .b) (c-loop .partitions) (c-loop .read) (c-loop .buffered) (c-loop .at) (c-loop .left) (c-loop .inv) (c .before .before .before .before .before .before .before .before .loop-test .taken) (locals-stopped (c-args .t1) (c-args .routes .now) (c-args .time) (c-args .rest .now) (c-args .n) (c-args .write) (c-args .out .now) (c-args .start) (c-loop .out) (c-loop .key) (c-loop .b) (c-loop .partitions) (c-loop .read) (c-loop .buffered) (c-loop .at) (c-loop .left) (c-loop .inv) (c .before .before .before .before .before .before .before .before .before .before .before .before .before .before .before .before .before .before .before .before .before .pre .4) _ (c .before .before .before .before .before .before .stops .ensures) ∙ c .before .before .before .before .before .if1 .left) (sym (c .before .is-ours .ensures) ∙ not-true _ (c .if2 .taken))
+
+partition-of-requires : tie.Need-partition-of-requires Inv-loop μ-loop
+partition-of-requires c κs =
+    let b = c .before .before .before .before .before .before .before .before .before .loop .inv .turn .bytes in
+    let p = c .before .before .before .before .before .before .before .before .loop-test .taken in
+    (c .before .before .before .before .before .before .before .before .before .before .before .before .before .before .before .before .before .before .before .before .before .pre .0 .routes-sound, simp (length-take, length-drop) (omega arith))
+
+mul-processed : tie.Need-mul-processed Inv-loop μ-loop
+mul-processed c = search needs
+
+element-copy-out-processed : tie.Need-element-copy-out-processed Inv-loop μ-loop
+element-copy-out-processed c = search needs
+
+mul-partition : tie.Need-mul-partition Inv-loop μ-loop
+mul-partition c = search needs
+
+array-copy-out-partition : tie.Need-array-copy-out-partition Inv-loop μ-loop
+array-copy-out-partition c = omega (arith, c .before .before .before .before .before .before .before .before .before .before .before .loop .inv .partitions-long, c .before .partition-of .ensures .1)
+
+mul-our-read : tie.Need-mul-our-read Inv-loop μ-loop
+mul-our-read c = search needs
+
+element-copy-out-our-read : tie.Need-element-copy-out-our-read Inv-loop μ-loop
+element-copy-out-our-read c = search needs
+
+our-read-requires : tie.Need-our-read-requires Inv-loop μ-loop
+our-read-requires c κs =
+    let c-loop = c .before .before .before .before .before .before .before .before .before .before .before .before .before .before .loop in
+    let c-pre = c .before .before .before .before .before .before .before .before .before .before .before .before .before .before .before .before .before .before .before .before .before .before .before .before .before .before .pre in
+    let c-args = c .before .before .before .before .before .before .before .before .before .before .before .before .before .before .before .before .before .before .before .before .before .before .before .before .before .before .args in
+    let c-partition-of = c .before .before .before .before .partition-of in
+    (c-loop .inv .turn .long ∙ c-pre .0 .room, λ q. locals-room (c-args .t1) (c-args .routes .now) (c-args .time) (c-args .rest .now) (c-args .n) (c-args .write) (c-args .out .now) (c-args .start) (c-loop .out) (c-loop .key) (c-loop .b) (c-loop .partitions) (c-loop .read) (c-loop .buffered) (c-loop .at) (c-loop .left) (c-loop .inv) (c .before .before .before .before .before .before .before .before .before .before .before .before .before .loop-test .taken) (locals-stopped (c-args .t1) (c-args .routes .now) (c-args .time) (c-args .rest .now) (c-args .n) (c-args .write) (c-args .out .now) (c-args .start) (c-loop .out) (c-loop .key) (c-loop .b) (c-loop .partitions) (c-loop .read) (c-loop .buffered) (c-loop .at) (c-loop .left) (c-loop .inv) (c-pre .4) _ (c .before .before .before .before .before .before .before .before .before .before .before .stops .ensures) ∙ c .before .before .before .before .before .before .before .before .before .before .if1 .left) (c-partition-of .result) (sym (c .before .before .before .before .before .before .is-ours .ensures) ∙ not-false _ (c .before .before .before .before .before .if2 .left)) (c-partition-of .ensures .0) (c-partition-of .ensures .1) (sym (length-map (c-args .t1 .limits) _) ∙ c .before .before .before .before .before .before .before .before .before .before .before .before .before .before .before .before .before .before .before .before .before .before .before .before .before .before .good .0 .1 .1 .1 .1 .1 .1 .1 .1 .1 .0 .1 .0 .1) q)
+
+mul-read : tie.Need-mul-read Inv-loop μ-loop
+mul-read c = search needs
+
+array-read-read : tie.Need-array-read-read Inv-loop μ-loop
+array-read-read c = omega (arith, c .before .before .before .before .before .before .before .before .before .before .before .before .before .before .before .before .before .before .loop .inv .read-long, c .before .before .before .before .before .before .before .before .partition-of .ensures .1)
+
+add-read : tie.Need-add-read Inv-loop μ-loop
+add-read c =
+    let c-loop = c .before .before .before .before .before .before .before .before .before .before .before .before .before .before .before .before .before .before .before .loop in
+    omega (arith, c-loop .inv .turn .within .read (c .before .before .before .before .before .before .before .before .before .partition-of .result), c .before .before .before .before .before .before .before .before .before .before .before .before .before .before .before .before .before .before .loop-test .taken, c-loop .inv .turn .few, taken-once _ _ _ _ _ (c .before .before .before .before .our-read .ensures .0) .0)
+
+mul-read-2 : tie.Need-mul-read-2 Inv-loop μ-loop
+mul-read-2 c = search needs
+
+array-write-read : tie.Need-array-write-read Inv-loop μ-loop
+array-write-read c = omega (arith, c .before .before .before .before .before .before .before .before .before .before .before .before .before .before .before .before .before .before .before .loop .inv .read-long, c .before .before .before .before .before .before .before .before .before .partition-of .ensures .1)
+
+mul-buffered : tie.Need-mul-buffered Inv-loop μ-loop
+mul-buffered c = search needs
+
+array-read-buffered : tie.Need-array-read-buffered Inv-loop μ-loop
+array-read-buffered c = omega (arith, c .before .before .before .before .before .before .before .before .before .before .before .before .before .before .before .before .before .before .before .loop .inv .buffered-long, c .before .before .before .before .before .before .before .before .before .partition-of .ensures .1)
+
+add-buffered : tie.Need-add-buffered Inv-loop μ-loop
+add-buffered c =
+    let c-loop = c .before .before .before .before .before .before .before .before .before .before .before .before .before .before .before .before .before .before .before .before .loop in
+    omega (arith, c-loop .inv .turn .within .buffered (c .before .before .before .before .before .before .before .before .before .before .partition-of .result), c .before .before .before .before .before .before .before .before .before .before .before .before .before .before .before .before .before .before .before .loop-test .taken, c-loop .inv .turn .few, taken-once _ _ _ _ _ (c .before .before .before .before .before .our-read .ensures .0) .1)
+
+mul-buffered-2 : tie.Need-mul-buffered-2 Inv-loop μ-loop
+mul-buffered-2 c = search needs
+
+array-write-buffered : tie.Need-array-write-buffered Inv-loop μ-loop
+array-write-buffered c = omega (arith, c .before .before .before .before .before .before .before .before .before .before .before .before .before .before .before .before .before .before .before .before .loop .inv .buffered-long, c .before .before .before .before .before .before .before .before .before .before .partition-of .ensures .1)
+
+mul-partitions : tie.Need-mul-partitions Inv-loop μ-loop
+mul-partitions c = search needs
+
+array-set-from-partitions : tie.Need-array-set-from-partitions Inv-loop μ-loop
+array-set-from-partitions c = omega (arith, c .before .before .before .before .before .before .before .before .before .before .before .before .before .before .before .before .before .before .before .before .loop .inv .partitions-long, c .before .before .before .before .before .before .before .before .before .before .partition-of .ensures .1)
+
+loop-less-2 : tie.Need-loop-less-2 Inv-loop μ-loop
+loop-less-2 c = omega (arith, c .before .before .before .before .before .before .before .before .before .before .before .before .before .before .before .before .before .before .before .before .loop-test .taken)
+
+loop-again-2 : tie.Need-loop-again-2 Inv-loop μ-loop
+loop-again-2 c =
+    let c-args = c .before .before .before .before .before .before .before .before .before .before .before .before .before .before .before .before .before .before .before .before .before .before .before .before .before .before .before .before .before .before .before .before .before .args in
+    let c-loop = c .before .before .before .before .before .before .before .before .before .before .before .before .before .before .before .before .before .before .before .before .before .loop in
+    let c-partition-of = c .before .before .before .before .before .before .before .before .before .before .before .partition-of in
+    locals-ours (c-args .t1) (c-args .routes .now) (c-args .time) (c-args .rest .now) (c-args .n) (c-args .write) (c-args .out .now) (c-args .start) (c-loop .out) (c-loop .key) (c-loop .b) (c-loop .partitions) (c-loop .read) (c-loop .buffered) (c-loop .at) (c-loop .left) (c-loop .inv) (c .before .before .before .before .before .before .before .before .before .before .before .before .before .before .before .before .before .before .before .before .loop-test .taken) (locals-stopped (c-args .t1) (c-args .routes .now) (c-args .time) (c-args .rest .now) (c-args .n) (c-args .write) (c-args .out .now) (c-args .start) (c-loop .out) (c-loop .key) (c-loop .b) (c-loop .partitions) (c-loop .read) (c-loop .buffered) (c-loop .at) (c-loop .left) (c-loop .inv) (c .before .before .before .before .before .before .before .before .before .before .before .before .before .before .before .before .before .before .before .before .before .before .before .before .before .before .before .before .before .before .before .before .before .pre .4) _ (c .before .before .before .before .before .before .before .before .before .before .before .before .before .before .before .before .before .before .stops .ensures) ∙ c .before .before .before .before .before .before .before .before .before .before .before .before .before .before .before .before .before .if1 .left) (c-partition-of .result) (sym (c .before .before .before .before .before .before .before .before .before .before .before .before .before .is-ours .ensures) ∙ not-false _ (c .before .before .before .before .before .before .before .before .before .before .before .before .if2 .left)) (c-partition-of .ensures .0) (c-partition-of .ensures .1) (sym (length-map (c-args .t1 .limits) _) ∙ c .before .before .before .before .before .before .before .before .before .before .before .before .before .before .before .before .before .before .before .before .before .before .before .before .before .before .before .before .before .before .before .before .before .good .0 .1 .1 .1 .1 .1 .1 .1 .1 .1 .0 .1 .0 .1) _ _ _ refl (c .before .before .before .before .before .before .our-read .ensures)
+
+walk-of-requires-2 : tie.Need-walk-of-requires-2 Inv-loop μ-loop
+walk-of-requires-2 c κs = search needs
 
 same-length-2 : tie.Need-same-length-2 Inv-loop μ-loop
-same-length-2 c = c .before .loop .inv .long
+same-length-2 c = c .before .before .before .loop .inv .turn .long
 
 returns-2 : tie.Need-returns-2 Inv-loop μ-loop
 returns-2 c =
-    let c-args = c .before .before .before .before .before .args in
-    let l = c .before .loop in
-    turn-none (c-args .x) (c-args .routes .now) (c-args .time) (c-args .rest .now) (c-args .n) (c-args .write) (c-args .out .now) (c-args .start) (l .out) (l .w) (l .at) (l .left) (l .inv) (c .loop-test .left)
+    let c-args = c .before .before .before .before .before .before .before .before .before .before .before .before .before .before .before .args in
+    let c-loop = c .before .before .before .loop in
+    rw (c .walk-of2 .ensures) (turn-none (c-args .t1) (c-args .routes .now) (c-args .time) (c-args .rest .now) (c-args .n) (c-args .write) (c-args .out .now) (c-args .start) (c-loop .out) (walkOf (c-args .start) (c-args .t1 .«saved_end») (c-loop .key .«msgs_offset») (c-loop .b) (c-loop .partitions) (c-loop .read) (c-loop .buffered)) (c-loop .at) (c-loop .left) (c-loop .inv .turn) (c .before .before .loop-test .left))
 
 pub messages-read-spec : {M : Type 1} → statement M
 messages-read-spec =
@@ -92,18 +183,44 @@ messages-read-spec =
     (tie.spec
     Inv-loop
     μ-loop
+    progress-of-requires
     loop-holds
     stops-requires
+    walk-of-requires
     same-length
     returns
     add-m
     sub-m
     part-m-start
     part-m-end
-    message-read-requires
+    add-key
     add-at
     sub-left
+    is-ours-requires
     loop-less
     loop-again
+    partition-of-requires
+    mul-processed
+    element-copy-out-processed
+    mul-partition
+    array-copy-out-partition
+    mul-our-read
+    element-copy-out-our-read
+    our-read-requires
+    mul-read
+    array-read-read
+    add-read
+    mul-read-2
+    array-write-read
+    mul-buffered
+    array-read-buffered
+    add-buffered
+    mul-buffered-2
+    array-write-buffered
+    mul-partitions
+    array-set-from-partitions
+    loop-less-2
+    loop-again-2
+    walk-of-requires-2
     same-length-2
     returns-2)

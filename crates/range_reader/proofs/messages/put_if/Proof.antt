@@ -1,3 +1,4 @@
+use Prim.Native.Nat.{_-_}
 use borrow.Author.Needs.{needs}
 use Rattle.range_reader.proofs.messages.put_if.Statement.{statement}
 use Rattle.range_reader.proofs.messages.put_if.Tie as tie

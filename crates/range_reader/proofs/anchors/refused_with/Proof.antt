@@ -1,7 +1,7 @@
 use Rattle.range_reader.specs.Rules.{refusedWith}
 use mathlib.Core.Path.{refl}
-use Rattle.range_reader.proofs.messages.refused_with.Statement.{statement}
-use Rattle.range_reader.proofs.messages.refused_with.Tie as tie
+use Rattle.range_reader.proofs.anchors.refused_with.Statement.{statement}
+use Rattle.range_reader.proofs.anchors.refused_with.Tie as tie
 
 returns : tie.Need-returns
 unfolding refusedWith

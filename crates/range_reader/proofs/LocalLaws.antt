@@ -1,0 +1,247 @@
+-- What the walk's locals stand for moves on with each message as the walk does.
+use Prim.Native.Nat.{ℕ, suc, zero, _+_, _-_, _*_, _^_, _≤_, _<_}
+use mathlib.Core.Path.{_≡_, refl, sym, ap, _∙_}
+use mathlib.Core.Bool.{Bool, true, false, not, _||_}
+use mathlib.Core.List.{List, [], _∷_}
+use mathlib.Core.Logic.{inr}
+use native.Mathlib.Omega.{arith}
+use lib.Dec.{eqb, leb}
+use lib.ListN.{length, getD, set, take, drop, length-set}
+use lib.Seq.{sets}
+use borrow.Author.Tests.{eqb-true, eq-eqb, ne-eqb}
+use Rattle.rows.specs.Rows.{pick}
+use Rattle.rows.proofs.Laws.{pick-yes, pick-no}
+use Rattle.ext_types.specs.declared.ChainTime.{ChainTime}
+use Rattle.ext_types.specs.declared.ExternalKey.{ExternalKey}
+use Rattle.ext_types.specs.Keys.{keyAbove}
+use Rattle.ext_types.proofs.Laws.{fact-above, above-transitive}
+use Rattle.messages_buffer.specs.declared.ExternalsPartitionRangeReaderState.{ExternalsPartitionRangeReaderState}
+use Rattle.messages_buffer.specs.Fullness.{rangeFull, noPartition}
+use Rattle.messages_buffer.proofs.Laws.{one-more-full}
+use Rattle.shard_ident.specs.Shard.{isOurs}
+use Rattle.router.specs.Router.{partitionOf}
+use Rattle.range_reader.specs.declared.Context.{Context}
+use Rattle.range_reader.specs.declared.Entry.{Entry}
+use Rattle.range_reader.specs.declared.Place.{Place}
+use Rattle.range_reader.specs.declared.Progress.{Progress}
+use Rattle.range_reader.specs.declared.Taken.{Taken}
+use Rattle.range_reader.specs.declared.Verdict.{Verdict}
+use Rattle.range_reader.specs.declared.Verdict.the-variants.{Keep, Buffer, Refuse}
+use Rattle.range_reader.specs.declared.Walk.{Walk}
+use Rattle.range_reader.specs.Rules.{endReached, raised, movedTo, keyAt, nextKey, advanced, ends, stopped, noProcessed, judge, more, refusedWith, readOne, buffered, bufferOne, after, verdictOn, ourRead, messageRead}
+use Rattle.range_reader.specs.Ready.{Few, Wrote}
+use Rattle.range_reader.specs.Locals.{progressOf, stoppedAt, placeAt, walkOf, bytesOf, verdictAt, taken, entriesOf}
+use Rattle.range_reader.proofs.Counts.{judge-buffer, pick-same, stopped-full, room-in}
+use Rattle.range_reader.proofs.MessageLaws.{wrote-nothing, Turn, turn-start, turn-next}
+
+-- ---- places
+-- raising by one key and then by the next is raising by the next
+raised-again : (key to : ExternalKey) → raised (nextKey key) (raised key to) ≡ raised (nextKey key) to
+raised-again key to = go (keyAbove key to) refl
+  where
+    above : keyAbove (nextKey key) key ≡ true
+    above = fact-above (nextKey key) key (inr (refl, omega arith))
+
+    go : (b : Bool) → keyAbove key to ≡ b → raised (nextKey key) (pick b key to) ≡ raised (nextKey key) to
+    go true h = pick-yes _ _ _ above ∙ sym (pick-yes _ _ _ (above-transitive (nextKey key) key to above h))
+    go false h = refl
+
+module _ (end : ExternalKey) (place : Place) (offset : ℕ) where
+  pub place-key : placeAt end place offset .key ≡ keyAt (place .key .«anchor_id») offset
+  unfolding placeAt
+  place-key = go (eqb (place .key .«msgs_offset») offset) refl
+    where
+      go : (b : Bool) → eqb (place .key .«msgs_offset») offset ≡ b → pick b place (movedTo end (keyAt (place .key .«anchor_id») offset) place) .key ≡ keyAt (place .key .«anchor_id») offset
+      go true h = ap (keyAt (place .key .«anchor_id»)) (eqb-true _ _ h)
+      go false h = refl
+
+  place-reached : place .reached ≡ endReached (place .key) end → placeAt end place offset .reached ≡ endReached (keyAt (place .key .«anchor_id») offset) end
+  unfolding placeAt
+  place-reached r = go (eqb (place .key .«msgs_offset») offset) refl
+    where
+      go : (b : Bool) → eqb (place .key .«msgs_offset») offset ≡ b → pick b place (movedTo end (keyAt (place .key .«anchor_id») offset) place) .reached ≡ endReached (keyAt (place .key .«anchor_id») offset) end
+      go true h = r ∙ ap (λ (o : ℕ). endReached (keyAt (place .key .«anchor_id») o) end) (eqb-true _ _ h)
+      go false h = refl
+
+  place-next : place .key .«msgs_offset» ≤ offset → movedTo end (keyAt (place .key .«anchor_id») (offset + 1)) (placeAt end place offset) ≡ placeAt end place (offset + 1)
+  unfolding placeAt
+  place-next h = go (eqb (place .key .«msgs_offset») offset) ∙ sym (pick-no _ _ _ (ne-eqb (place .key .«msgs_offset») (offset + 1) (λ e. omega arith)))
+    where
+      id : ℕ
+      id = place .key .«anchor_id»
+
+      go : (b : Bool) → movedTo end (keyAt (place .key .«anchor_id») (offset + 1)) (pick b place (movedTo end (keyAt (place .key .«anchor_id») offset) place)) ≡ movedTo end (keyAt (place .key .«anchor_id») (offset + 1)) place
+      go true = refl
+      go false =
+          let k = keyAt (place .key .«anchor_id») (offset + 1) in
+          ap (λ (t : ExternalKey). record { key = k; reached = endReached k end; position = k; to = t }) (raised-again (keyAt (place .key .«anchor_id») offset) (place .to))
+
+-- ---- lists
+set-same : {A : Type 0} (l : List A) (p : ℕ) (d : A) → set l p (getD l p d) ≡ l
+set-same [] p d = refl
+set-same (x ∷ l) zero d = refl
+set-same (x ∷ l) (suc p) d = ap (_∷_ x) (set-same l p d)
+
+none-more : (l : List ℕ) (p : ℕ) → set l p (getD l p 0 + 0) ≡ l
+none-more l p =
+    let e : getD l p 0 + 0 ≡ getD l p 0 = omega arith in
+    rw e (set-same l p 0)
+
+-- ---- the walk
+module _ (x : Context) (start : Walk) where
+  abbrev walk : ℕ → Progress → List ExternalsPartitionRangeReaderState → List ℕ → List ℕ → Walk
+  walk = walkOf start (x .«saved_end»)
+
+  pub walk-start : walkOf start (x .«saved_end») (start .place .key .«msgs_offset») (progressOf start) (start .buffers .«by_partitions») (start .counts .read) (start .counts .buffered) ≡ start
+  unfolding placeAt
+  walk-start =
+      ap (λ (p : Place). record { number = start .number; place = p; buffers = start .buffers; counts = start .counts })
+      (pick-yes _ _ _ (eq-eqb (start .place .key .«msgs_offset») (start .place .key .«msgs_offset») refl))
+
+  module _ (offset : ℕ) (b : Progress) (partitions : List ExternalsPartitionRangeReaderState) (read buffered₁ : List ℕ) where
+    pub stopped-locals : start .place .reached ≡ endReached (start .place .key) (x .«saved_end»)
+        → stopped x (walk offset b partitions read buffered₁) ≡ stoppedAt (x .mode) (x .«saved_end») (keyAt (start .place .key .«anchor_id») offset) b
+    unfolding stopped stoppedAt
+    stopped-locals r = ap (λ (q : Bool). not (eqb (b .number) 0) || (b .full || ends (x .mode) q)) (place-reached (x .«saved_end») (start .place) offset r)
+
+    advanced-locals : start .place .key .«msgs_offset» ≤ offset → advanced x (walk offset b partitions read buffered₁) ≡ walk (offset + 1) b partitions read buffered₁
+    unfolding advanced
+    advanced-locals h =
+        let k = place-key (x .«saved_end») (start .place) offset in
+        let f : Place → Walk = λ (p : Place). record { number = b .number; place = p; buffers = record { full = b .full; used = b .used; «by_partitions» = partitions }; counts = record { read = read; expired = start .counts .expired; buffered = buffered₁ } } in
+        ap (λ (key : ExternalKey). f (movedTo (x .«saved_end») (nextKey key) (placeAt (x .«saved_end») (start .place) offset))) k
+        ∙ ap f (place-next (x .«saved_end») (start .place) offset h)
+
+    -- what a verdict changes in one partition is what it makes of the walk
+    taken-locals : (v : Verdict) (time : ChainTime) (p : ℕ) → length (x .limits) ≡ length partitions → p < length (x .limits) → rangeFull (x .limits) partitions ≡ false → (v ≡ Buffer → getD partitions p noPartition .present ≡ true)
+        → (t : Taken) → t ≡ taken v (getD (x .limits) p 0) (getD partitions p noPartition) b
+        → walk offset (t .progress) (set partitions p (t .partition)) (set read p (getD read p 0 + t .read)) (set buffered₁ p (getD buffered₁ p 0 + t .buffered)) ≡ after v x time p (walk offset b partitions read buffered₁) .value
+    unfolding taken readOne bufferOne buffered refusedWith
+    taken-locals Keep time p l h e f t g = rw (g, set-same partitions p noPartition, none-more buffered₁ p)
+    taken-locals Buffer time p l h e f t g = rw (g, one-more-full (x .limits) partitions l e p h (f refl))
+    taken-locals (Refuse n) time p l h e f t g = rw (g, set-same partitions p noPartition, none-more buffered₁ p, none-more read p)
+
+  module _ (offset : ℕ) (b : Progress) (partitions : List ExternalsPartitionRangeReaderState) (read buffered₁ : List ℕ) where
+    abbrev next : Walk
+    next = walk (offset + 1) b partitions read buffered₁
+
+    module _ (routes : List ℕ) (time : ChainTime) (m : List ℕ) (write : Bool) (out : List ℕ) (h : start .place .key .«msgs_offset» ≤ offset) where
+      pub other-step : isOurs (x .shard) m ≡ false → Wrote write (b .used) out out next (messageRead x routes time m (walk offset b partitions read buffered₁))
+      unfolding messageRead
+      other-step i = rw i (wrote-nothing write (b .used) out next _ (sym (advanced-locals offset b partitions read buffered₁ h)))
+
+      module _ (p : ℕ) (ours : isOurs (x .shard) m ≡ true) (pe : p ≡ partitionOf routes m) (l : length (x .limits) ≡ length partitions) (few : p < length (x .limits)) (room : rangeFull (x .limits) partitions ≡ false) where
+        abbrev key : ExternalKey
+        key = keyAt (start .place .key .«anchor_id») (offset + 1)
+
+        abbrev verdict : Verdict
+        verdict = verdictAt (getD (x .processed) p noProcessed) (getD partitions p noPartition) key b (x .room)
+
+        abbrev entry : Entry
+        entry = record { seqno = x .seqno; partition = p; key = key; time = time }
+
+        same-verdict : verdictOn x p next ≡ verdict
+        same-verdict = ap (λ (k : ExternalKey). judge (getD (x .processed) p noProcessed) (getD partitions p noPartition) k (leb (b .used + 26) (x .room))) (place-key (x .«saved_end») (start .place) (offset + 1))
+
+        same-entries : (v : Verdict) → entriesOf v entry ≡ after v x time p next .entries
+        unfolding entriesOf
+        same-entries Keep = refl
+        same-entries Buffer = sym (ap (λ (k : ExternalKey). bytesOf (record { seqno = x .seqno; partition = p; key = k; time = time })) (place-key (x .«saved_end») (start .place) (offset + 1)))
+        same-entries (Refuse n) = refl
+
+        pub ours-step : (o : List ℕ) (t : Taken) → t ≡ taken verdict (getD (x .limits) p 0) (getD partitions p noPartition) b → o ≡ pick write (sets out (b .used) (entriesOf verdict entry)) out
+            → Wrote write (b .used) out o (walk (offset + 1) (t .progress) (set partitions p (t .partition)) (set read p (getD read p 0 + t .read)) (set buffered₁ p (getD buffered₁ p 0 + t .buffered))) (messageRead x routes time m (walk offset b partitions read buffered₁))
+        unfolding messageRead ourRead
+        ours-step o t te oe =
+            rw (ours, sym pe, advanced-locals offset b partitions read buffered₁ h, same-verdict)
+            (record {
+              value = taken-locals (offset + 1) b partitions read buffered₁ verdict time p l few room (λ e. judge-buffer _ _ _ _ e .1) t te;
+              out = oe ∙ ap (λ (es : List ℕ). pick write (sets out (b .used) es) out) (same-entries verdict);
+            })
+
+-- ---- one message of ours, put together from what its parts ensure
+pub our-taken : (v u : Verdict) (limit : ℕ) (partition : ExternalsPartitionRangeReaderState) (b : Progress) (write : Bool) (e : Entry) (out o : List ℕ) (t : Taken) → v ≡ u → t ≡ taken u limit partition b → o ≡ pick write (sets out (b .used) (entriesOf u e)) out
+    → (t ≡ taken v limit partition b) × (o ≡ pick write (sets out (b .used) (entriesOf v e)) out)
+our-taken v u limit partition b write e out o t h p q = rw h (p, q)
+
+pub no-entry : (write : Bool) (used : ℕ) (out es : List ℕ) → es ≡ [] → out ≡ pick write (sets out used es) out
+no-entry write used out es e = rw e (sym (pick-same write out))
+
+-- ---- the loop over the messages
+pub record LocalTurn (x : Context) (routes : List ℕ) (time : ChainTime) (rest : List ℕ) (n : ℕ) (write : Bool) (out₀ : List ℕ) (start : Walk) (out : List ℕ) (key : ExternalKey) (b : Progress) (partitions : List ExternalsPartitionRangeReaderState) (read buffered₁ : List ℕ) (at left : ℕ) : Type 0 where
+  pub turn : Turn x routes time rest n write out₀ start out (walkOf start (x .«saved_end») (key .«msgs_offset») b partitions read buffered₁) at left
+  pub anchor : key .«anchor_id» ≡ start .place .key .«anchor_id»
+  pub past : start .place .key .«msgs_offset» ≤ key .«msgs_offset»
+  pub partitions-long : length partitions ≡ 8
+  pub read-long : length read ≡ 8
+  pub buffered-long : length buffered₁ ≡ 8
+
+module _ (x : Context) (routes : List ℕ) (time : ChainTime) (rest : List ℕ) (n : ℕ) (write : Bool) (out₀ : List ℕ) (start : Walk) where
+  pub locals-start : 33 * n ≤ length rest → start .place .key .«msgs_offset» + n < 2 ^ 64 → Few x n start → length (start .buffers .«by_partitions») ≡ 8 → length (start .counts .read) ≡ 8 → length (start .counts .buffered) ≡ 8
+      → (b : Progress) → b ≡ progressOf start → LocalTurn x routes time rest n write out₀ start out₀ (start .place .key) b (start .buffers .«by_partitions») (start .counts .read) (start .counts .buffered) 0 n
+  locals-start e f h p r s b be = record {
+    turn = rw (be, walk-start x start) (turn-start x routes time rest n write out₀ start e f h);
+    anchor = refl;
+    past = omega arith;
+    partitions-long = p;
+    read-long = r;
+    buffered-long = s;
+  }
+
+  module _ (out : List ℕ) (key : ExternalKey) (b : Progress) (partitions : List ExternalsPartitionRangeReaderState) (read buffered₁ : List ℕ) (at left : ℕ) (h : LocalTurn x routes time rest n write out₀ start out key b partitions read buffered₁ at left) where
+    abbrev here : Walk
+    here = walkOf start (x .«saved_end») (key .«msgs_offset») b partitions read buffered₁
+
+    pub locals-fit : key .«msgs_offset» + left < 2 ^ 64
+    locals-fit = rw (place-key (x .«saved_end») (start .place) (key .«msgs_offset»)) at (h .turn .fits)
+
+    -- the stop that the loop tests is the walk's
+    pub locals-stopped : start .place .reached ≡ endReached (start .place .key) (x .«saved_end») → (s : Bool) → s ≡ stoppedAt (x .mode) (x .«saved_end») key b → stopped x here ≡ s
+    locals-stopped r s e =
+        stopped-locals x start (key .«msgs_offset») b partitions read buffered₁ r
+        ∙ (ap (λ (id : ℕ). stoppedAt (x .mode) (x .«saved_end») (keyAt id (key .«msgs_offset»)) b) (sym (h .anchor)) ∙ sym e)
+
+    module _ (more : 0 < left) (goes-on : stopped x here ≡ false) where
+      pub locals-other : isOurs (x .shard) (take (at + 33 - at) (drop at rest)) ≡ false
+          → LocalTurn x routes time rest n write out₀ start out (keyAt (key .«anchor_id») (key .«msgs_offset» + 1)) b partitions read buffered₁ (at + 33) (left - 1)
+      locals-other i = record {
+        turn = turn-next x routes time rest n write out₀ start out here at left (h .turn) out _ more goes-on (other-step x start (key .«msgs_offset») b partitions read buffered₁ routes time _ write out (h .past) i);
+        anchor = h .anchor;
+        past = omega (arith, h .past);
+        partitions-long = h .partitions-long;
+        read-long = h .read-long;
+        buffered-long = h .buffered-long;
+      }
+
+      module _ (p : ℕ) (i : isOurs (x .shard) (take (at + 33 - at) (drop at rest)) ≡ true) (pe : p ≡ partitionOf routes (take (at + 33 - at) (drop at rest))) (few : p < 8) (l : length (x .limits) ≡ 8) where
+        room : rangeFull (x .limits) partitions ≡ false
+        room = sym (h .turn .within .full) ∙ stopped-full x here goes-on
+
+        pub locals-room : getD partitions p noPartition .present ≡ true → getD partitions p noPartition .count + 1 ≤ getD (x .limits) p 0
+        locals-room q = room-in (x .limits) (here .buffers) p l (h .partitions-long) few room q
+
+        pub locals-ours : (o : List ℕ) (t : Taken) (next : ExternalKey) → next ≡ keyAt (key .«anchor_id») (key .«msgs_offset» + 1)
+            → (t ≡ taken (verdictAt (getD (x .processed) p noProcessed) (getD partitions p noPartition) next b (x .room)) (getD (x .limits) p 0) (getD partitions p noPartition) b)
+            × (o ≡ pick write (sets out (b .used) (entriesOf (verdictAt (getD (x .processed) p noProcessed) (getD partitions p noPartition) next b (x .room)) (record { seqno = x .seqno; partition = p; key = next; time = time }))) out)
+            → LocalTurn x routes time rest n write out₀ start o next (t .progress) (set partitions p (t .partition)) (set read p (getD read p 0 + t .read)) (set buffered₁ p (getD buffered₁ p 0 + t .buffered)) (at + 33) (left - 1)
+        locals-ours o t next ne g =
+            let k : next ≡ keyAt (start .place .key .«anchor_id») (key .«msgs_offset» + 1) = ne ∙ ap (λ (id : ℕ). keyAt id (key .«msgs_offset» + 1)) (h .anchor) in
+            let f = rw k at g in
+            let s : length (x .limits) ≡ length partitions = l ∙ sym (h .partitions-long) in
+            rw k
+            (record {
+              turn = turn-next x routes time rest n write out₀ start out here at left (h .turn) o _ more goes-on
+                  (ours-step x start (key .«msgs_offset») b partitions read buffered₁ routes time _ write out (h .past) p i pe s (omega arith) room o t (f .0) (f .1));
+              anchor = refl;
+              past = omega (arith, h .past);
+              partitions-long = simp length-set (h .partitions-long);
+              read-long = simp length-set (h .read-long);
+              buffered-long = simp length-set (h .buffered-long);
+            })
+
+-- a message counts at most once
+pub taken-once : (v : Verdict) (limit : ℕ) (partition : ExternalsPartitionRangeReaderState) (b : Progress) (t : Taken) → t ≡ taken v limit partition b → (t .read ≤ 1) × (t .buffered ≤ 1)
+unfolding taken
+taken-once Keep limit partition b t e = rw e (omega arith, omega arith)
+taken-once Buffer limit partition b t e = rw e (omega arith, omega arith)
+taken-once (Refuse n) limit partition b t e = rw e (omega arith, omega arith)
