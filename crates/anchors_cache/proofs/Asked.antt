@@ -104,6 +104,24 @@ parts places tables c e =
     }
 
 -- ---- the transaction's window, and what its rollback restores
+-- ---- a window is its six numbers
+same-pending : (a b : Bool) → sameBool a b ≡ true → a ≡ b
+same-pending true b e = sym e
+same-pending false true e = e
+same-pending false false e = refl
+
+pub same-parts : (a b : AnchorsCache) → a .first ≡ b .first → a .len ≡ b .len → a .«history_first» ≡ b .«history_first» → a .«history_len» ≡ b .«history_len» → a .base ≡ b .base → sameBool (a .pending) (b .pending) ≡ true → a ≡ b
+same-parts a b f l hf hl n p =
+    ap (λ (v : ℕ). window v (a .len) (a .«history_first») (a .«history_len») (a .base) (a .pending)) f
+    ∙ (ap (λ (v : ℕ). window (b .first) v (a .«history_first») (a .«history_len») (a .base) (a .pending)) l
+    ∙ (ap (λ (v : ℕ). window (b .first) (b .len) v (a .«history_len») (a .base) (a .pending)) hf
+    ∙ (ap (λ (v : ℕ). window (b .first) (b .len) (b .«history_first») v (a .base) (a .pending)) hl
+    ∙ (ap (λ (v : ℕ). window (b .first) (b .len) (b .«history_first») (b .«history_len») v (a .pending)) n
+    ∙ ap (window (b .first) (b .len) (b .«history_first») (b .«history_len») (b .base)) (same-pending (a .pending) (b .pending) p)))))
+  where
+    window : ℕ → ℕ → ℕ → ℕ → ℕ → Bool → AnchorsCache
+    window first len history-first history-len base pending = record { first = first; len = len; «history_first» = history-first; «history_len» = history-len; base = base; pending = pending }
+
 module _ (places : ℕ) (tables : List ℕ) (t : AnchorsCacheTransaction) where
   pub valid-not : validCache places tables (t .cache) ≡ false → valid places tables t ≡ false
   unfolding valid
@@ -112,6 +130,9 @@ module _ (places : ℕ) (tables : List ℕ) (t : AnchorsCacheTransaction) where
   pub valid-open : validCache places tables (t .cache) ≡ true → t .active ≡ true → valid places tables t ≡ validCache places tables (t .undo)
   unfolding valid
   valid-open e f = rw e (ap (λ (b : Bool). pick b (validCache places tables (t .undo)) true) f)
+
+  pub valid-same : validCache places tables (t .cache) ≡ true → t .active ≡ true → t .cache ≡ t .undo → valid places tables t ≡ true
+  valid-same e f g = valid-open e f ∙ (ap (validCache places tables) (sym g) ∙ e)
 
   pub valid-shut : validCache places tables (t .cache) ≡ true → t .active ≡ false → valid places tables t ≡ true
   unfolding valid

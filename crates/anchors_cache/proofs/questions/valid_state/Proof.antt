@@ -1,4 +1,4 @@
-use Rattle.anchors_cache.proofs.Asked.{valid-not, valid-open, valid-shut}
+use Rattle.anchors_cache.proofs.Asked.{valid-not, valid-open, valid-same, valid-shut}
 use Prim.Native.Nat.{_-_}
 use mathlib.Core.Path.{sym, _∙_}
 use borrow.Author.Tests.{not-true, not-false}
@@ -14,19 +14,35 @@ returns c =
     let c-args = c .before .before .before .before .args in
     sym (valid-not (c-args .places) (c-args .tables .now) (c-args .t) (sym (c .before .valid-cache .ensures) ∙ not-true _ (c .if1 .taken)))
 
-valid-cache-requires-2 : tie.Need-valid-cache-requires-2
-valid-cache-requires-2 c κs = search needs
+same-window-requires : tie.Need-same-window-requires
+same-window-requires c κs = search needs
 
 returns-2 : tie.Need-returns-2
 returns-2 c =
-    let c-args = c .before .before .before .before .before .before .before .args in
-    c .valid-cache2 .ensures ∙ sym (valid-open (c-args .places) (c-args .tables .now) (c-args .t) (sym (c .before .before .before .before .valid-cache .ensures) ∙ not-false _ (c .before .before .before .if1 .left)) (c .before .before .if2 .taken))
+    let c-args = c .before .before .before .before .before .before .before .before .args in
+    sym (valid-same (c-args .places) (c-args .tables .now) (c-args .t) (sym (c .before .before .before .before .before .valid-cache .ensures) ∙ not-false _ (c .before .before .before .before .if1 .left)) (c .before .before .before .if2 .taken) (c .before .same-window .ensures (c .if3 .taken)))
+
+valid-cache-requires-2 : tie.Need-valid-cache-requires-2
+valid-cache-requires-2 c κs = search needs
 
 returns-3 : tie.Need-returns-3
 returns-3 c =
+    let c-args = c .before .before .before .before .before .before .before .before .before .args in
+    c .valid-cache2 .ensures ∙ sym (valid-open (c-args .places) (c-args .tables .now) (c-args .t) (sym (c .before .before .before .before .before .before .valid-cache .ensures) ∙ not-false _ (c .before .before .before .before .before .if1 .left)) (c .before .before .before .before .if2 .taken))
+
+returns-4 : tie.Need-returns-4
+returns-4 c =
     let c-args = c .before .before .before .before .before .args in
     sym (valid-shut (c-args .places) (c-args .tables .now) (c-args .t) (sym (c .before .before .valid-cache .ensures) ∙ not-false _ (c .before .if1 .left)) (c .if2 .left))
 
 pub valid-state-spec : {M : Type 1} → statement M
 valid-state-spec =
-    tie.close (tie.spec valid-cache-requires returns valid-cache-requires-2 returns-2 returns-3)
+    tie.close
+    (tie.spec
+    valid-cache-requires
+    returns
+    same-window-requires
+    returns-2
+    valid-cache-requires-2
+    returns-3
+    returns-4)
