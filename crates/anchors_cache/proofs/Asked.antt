@@ -5,9 +5,9 @@ use mathlib.Core.Bool.{Bool, true, false, not, _&&_, _||_}
 use mathlib.Core.List.{List, [], _∷_}
 use native.Mathlib.Nat.{mul-div-le}
 use native.Mathlib.Omega.{arith}
-use lib.Dec.{ltb, leb}
+use lib.Dec.{ltb, leb, eqb}
 use lib.ListN.{length}
-use borrow.Author.Tests.{lt-ltb, lt-leb, leb-true, leb-false, ltb-true}
+use borrow.Author.Tests.{lt-ltb, lt-leb, leb-true, leb-false, ltb-true, eqb-true}
 use Rattle.rows.specs.Rows.{pick}
 use Rattle.rows.proofs.Laws.{and-true}
 use Rattle.anchors_cache.specs.declared.AnchorsCache.{AnchorsCache}
@@ -16,7 +16,7 @@ use Rattle.anchors_cache.specs.declared.Total.the-variants.{Messages, Un
 use Rattle.anchors_cache.specs.Rules.{Row, soundRow, soundFrom, total, lastOf, aboveLast, sameBool, rightSize, room, pendingUpTo, ask, maxAnchors, maxAnchorMessages, maxMessages, maxHistory}
 use Rattle.anchors_cache.specs.Tables.{tablesBytes, anchors, anchorAt, anchorsOf}
 use Rattle.anchors_cache.specs.Windows.{usedBy, Sound, Room}
-use Rattle.anchors_cache.specs.Calls.{soundTotal, soundAnchor, cachedAnchor, validCache, valid, refusal, refusalAt, refusalSeen, addNumber, onZero, areaBytes, placesIn, anyPlaces}
+use Rattle.anchors_cache.specs.Calls.{sameWindow, soundTotal, soundAnchor, cachedAnchor, validCache, valid, refusal, refusalAt, refusalSeen, addNumber, onZero, areaBytes, placesIn, anyPlaces}
 use Rattle.anchors_cache.proofs.Laws.{anchors-cons, anchors-none}
 
 -- ---- question 5 of the anchors, in one pass
@@ -104,23 +104,33 @@ parts places tables c e =
     }
 
 -- ---- the transaction's window, and what its rollback restores
--- ---- a window is its six numbers
+-- ---- windows
 same-pending : (a b : Bool) → sameBool a b ≡ true → a ≡ b
 same-pending true b e = sym e
 same-pending false true e = e
 same-pending false false e = refl
 
-pub same-parts : (a b : AnchorsCache) → a .first ≡ b .first → a .len ≡ b .len → a .«history_first» ≡ b .«history_first» → a .«history_len» ≡ b .«history_len» → a .base ≡ b .base → sameBool (a .pending) (b .pending) ≡ true → a ≡ b
-same-parts a b f l hf hl n p =
-    ap (λ (v : ℕ). window v (a .len) (a .«history_first») (a .«history_len») (a .base) (a .pending)) f
-    ∙ (ap (λ (v : ℕ). window (b .first) v (a .«history_first») (a .«history_len») (a .base) (a .pending)) l
-    ∙ (ap (λ (v : ℕ). window (b .first) (b .len) v (a .«history_len») (a .base) (a .pending)) hf
-    ∙ (ap (λ (v : ℕ). window (b .first) (b .len) (b .«history_first») v (a .base) (a .pending)) hl
-    ∙ (ap (λ (v : ℕ). window (b .first) (b .len) (b .«history_first») (b .«history_len») v (a .pending)) n
-    ∙ ap (window (b .first) (b .len) (b .«history_first») (b .«history_len») (b .base)) (same-pending (a .pending) (b .pending) p)))))
+pub same-window : (a b : AnchorsCache) → sameWindow a b ≡ true → a ≡ b
+unfolding sameWindow
+same-window a b e =
+    let f = and-true (eqb (a .first) (b .first)) _ e in
+    let l = and-true (eqb (a .len) (b .len)) _ (f .1) in
+    let hf = and-true (eqb (a .«history_first») (b .«history_first»)) _ (l .1) in
+    let hl = and-true (eqb (a .«history_len») (b .«history_len»)) _ (hf .1) in
+    let n = and-true (eqb (a .base) (b .base)) _ (hl .1) in
+    same-parts (eqb-true _ _ (f .0)) (eqb-true _ _ (l .0)) (eqb-true _ _ (hf .0)) (eqb-true _ _ (hl .0)) (eqb-true _ _ (n .0)) (same-pending (a .pending) (b .pending) (n .1))
   where
     window : ℕ → ℕ → ℕ → ℕ → ℕ → Bool → AnchorsCache
     window first len history-first history-len base pending = record { first = first; len = len; «history_first» = history-first; «history_len» = history-len; base = base; pending = pending }
+
+    same-parts : a .first ≡ b .first → a .len ≡ b .len → a .«history_first» ≡ b .«history_first» → a .«history_len» ≡ b .«history_len» → a .base ≡ b .base → a .pending ≡ b .pending → a ≡ b
+    same-parts f l hf hl n p =
+        ap (λ (v : ℕ). window v (a .len) (a .«history_first») (a .«history_len») (a .base) (a .pending)) f
+        ∙ (ap (λ (v : ℕ). window (b .first) v (a .«history_first») (a .«history_len») (a .base) (a .pending)) l
+        ∙ (ap (λ (v : ℕ). window (b .first) (b .len) v (a .«history_len») (a .base) (a .pending)) hf
+        ∙ (ap (λ (v : ℕ). window (b .first) (b .len) (b .«history_first») v (a .base) (a .pending)) hl
+        ∙ (ap (λ (v : ℕ). window (b .first) (b .len) (b .«history_first») (b .«history_len») v (a .pending)) n
+        ∙ ap (window (b .first) (b .len) (b .«history_first») (b .«history_len») (b .base)) p))))
 
 module _ (places : ℕ) (tables : List ℕ) (t : AnchorsCacheTransaction) where
   pub valid-not : validCache places tables (t .cache) ≡ false → valid places tables t ≡ false

@@ -3,7 +3,7 @@ use Prim.Native.Nat.{ℕ, zero, suc, _+_, _/_}
 use mathlib.Core.Bool.{Bool, true, false, not, _&&_}
 use mathlib.Core.List.{List, [], _∷_}
 use mathlib.Core.Option.{Option, none, some}
-use lib.Dec.{ltb, leb}
+use lib.Dec.{ltb, leb, eqb}
 use lib.ListN.{length, take, drop, replicate}
 use Rattle.rows.specs.Rows.{pick}
 use Rattle.rows.specs.declared.Appended.{Appended}
@@ -65,6 +65,14 @@ validCache places tables c =
     && (leb (total (anchorsOf tables c)) maxMessages
     && (leb (c .base + total (anchorsOf tables c)) places
     && sameBool (c .pending) (ltb 0 (c .len)))))))
+
+-- a window is its six numbers
+unfoldable pub sameWindow : AnchorsCache → AnchorsCache → Bool
+sameWindow a b =
+    eqb (a .first) (b .first)
+    && (eqb (a .len) (b .len)
+    && (eqb (a .«history_first») (b .«history_first»)
+    && (eqb (a .«history_len») (b .«history_len») && (eqb (a .base) (b .base) && sameBool (a .pending) (b .pending)))))
 
 -- also of what an open transaction's rollback restores
 unfoldable pub valid : ℕ → List ℕ → AnchorsCacheTransaction → Bool

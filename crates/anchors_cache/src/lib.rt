@@ -7,7 +7,7 @@ ghost use Rattle.rows.specs.Rows.{pick};
 ghost use Rattle.anchors_cache.specs.Rules.{lastOf};
 ghost use Rattle.anchors_cache.specs.Tables.{anchors, infos};
 ghost use Rattle.anchors_cache.specs.Windows.{addedTables, addedArea};
-ghost use Rattle.anchors_cache.specs.Calls.{onZero, rowFor, addNumber, addCall, refusal, rowAt, infoRowAt, popCall, popsCall, trimCall, clearCall, openCall, commitCall, rollbackCall, closeCall, lastInfoCall, infoAtCtCall, lastIdCall, getCall, pendingCall, pendingInRangeCall, shownInfo, shownAnchor, closedTransaction};
+ghost use Rattle.anchors_cache.specs.Calls.{sameWindow, onZero, rowFor, addNumber, addCall, refusal, rowAt, infoRowAt, popCall, popsCall, trimCall, clearCall, openCall, commitCall, rollbackCall, closeCall, lastInfoCall, infoAtCtCall, lastIdCall, getCall, pendingCall, pendingInRangeCall, shownInfo, shownAnchor, closedTransaction};
 use ext_types::ChainTime;
 use ext_types::ExternalKey;
 
@@ -144,6 +144,28 @@ pub fn new() -> AnchorsCacheTransaction
         active: false,
         committed: false,
     }
+}
+
+// The same six numbers.
+pub fn same_window(a: AnchorsCache, b: AnchorsCache) -> bool
+    ensures { λ r. ⌜ r ≡ sameWindow a b ⌝ }
+{
+    if a.first != b.first {
+        return false;
+    }
+    if a.len != b.len {
+        return false;
+    }
+    if a.history_first != b.history_first {
+        return false;
+    }
+    if a.history_len != b.history_len {
+        return false;
+    }
+    if a.base != b.base {
+        return false;
+    }
+    questions::same_bool(a.pending, b.pending)
 }
 
 // Questions 1 and 5, for a reader that goes on by rows.

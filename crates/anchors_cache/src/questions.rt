@@ -1,6 +1,5 @@
 // The questions of document 01 that the cache's calls ask: 1 and 5 to 9. The number 0 says that each is answered yes.
 ghost use mathlib.Core.Path.{_≡_};
-ghost use mathlib.Core.Bool.{true};
 ghost use Prim.Native.Nat.{ℕ, _+_, _*_, _/_, _<_, _≤_};
 ghost use lib.Dec.{ltb, leb};
 ghost use lib.ListN.{length};
@@ -25,7 +24,7 @@ const MAX_HISTORY: usize = 256;
 
 const ANY_PLACES: usize = 558992244657865200;
 
-fn same_bool(a: bool, b: bool) -> bool
+pub(crate) fn same_bool(a: bool, b: bool) -> bool
     ensures { λ r. ⌜ r ≡ sameBool a b ⌝ }
 {
     if a { b } else { !b }
@@ -97,27 +96,6 @@ fn valid_cache(tables: &[u8], places: usize, c: AnchorsCache) -> bool
     same_bool(c.pending, 0 < len)
 }
 
-fn same_window(a: AnchorsCache, b: AnchorsCache) -> bool
-    ensures { λ r. ⌜ (r ≡ true → a ≡ b) ⌝ }
-{
-    if a.first != b.first {
-        return false;
-    }
-    if a.len != b.len {
-        return false;
-    }
-    if a.history_first != b.history_first {
-        return false;
-    }
-    if a.history_len != b.history_len {
-        return false;
-    }
-    if a.base != b.base {
-        return false;
-    }
-    same_bool(a.pending, b.pending)
-}
-
 // Also of what an open transaction's rollback restores, unless that is the cache as it is.
 fn valid_state(tables: &[u8], places: usize, t: AnchorsCacheTransaction) -> bool
     ensures { λ r. ⌜ r ≡ valid places (now (tables .entry)) t ⌝ }
@@ -128,7 +106,7 @@ fn valid_state(tables: &[u8], places: usize, t: AnchorsCacheTransaction) -> bool
     }
     if t.active {
         let undo = t.undo;
-        if same_window(cache, undo) {
+        if crate::same_window(cache, undo) {
             return true;
         }
         return valid_cache(tables, places, undo);

@@ -149,32 +149,13 @@ pub fn restorable(w: AnchorsCache, active: bool) -> AnchorsCacheTransaction {
     }
 }
 
-fn same_window(a: AnchorsCache, b: AnchorsCache) -> bool {
-    if a.first != b.first {
-        return false;
-    }
-    if a.len != b.len {
-        return false;
-    }
-    if a.history_first != b.history_first {
-        return false;
-    }
-    if a.history_len != b.history_len {
-        return false;
-    }
-    if a.base != b.base {
-        return false;
-    }
-    a.pending == b.pending
-}
-
 pub fn same(a: AnchorsCacheTransaction, b: AnchorsCacheTransaction) -> bool {
     let cache = a.cache;
     let undo = a.undo;
-    if !same_window(cache, b.cache) {
+    if !anchors_cache::same_window(cache, b.cache) {
         return false;
     }
-    if !same_window(undo, b.undo) {
+    if !anchors_cache::same_window(undo, b.undo) {
         return false;
     }
     if a.active != b.active {

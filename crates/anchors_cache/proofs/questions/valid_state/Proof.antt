@@ -1,4 +1,4 @@
-use Rattle.anchors_cache.proofs.Asked.{valid-not, valid-open, valid-same, valid-shut}
+use Rattle.anchors_cache.proofs.Asked.{valid-not, valid-open, valid-same, valid-shut, same-window}
 use Prim.Native.Nat.{_-_}
 use mathlib.Core.Path.{sym, _∙_}
 use borrow.Author.Tests.{not-true, not-false}
@@ -20,7 +20,7 @@ same-window-requires c κs = search needs
 returns-2 : tie.Need-returns-2
 returns-2 c =
     let c-args = c .before .before .before .before .before .before .before .before .args in
-    sym (valid-same (c-args .places) (c-args .tables .now) (c-args .t) (sym (c .before .before .before .before .before .valid-cache .ensures) ∙ not-false _ (c .before .before .before .before .if1 .left)) (c .before .before .before .if2 .taken) (c .before .same-window .ensures (c .if3 .taken)))
+    sym (valid-same (c-args .places) (c-args .tables .now) (c-args .t) (sym (c .before .before .before .before .before .valid-cache .ensures) ∙ not-false _ (c .before .before .before .before .if1 .left)) (c .before .before .before .if2 .taken) (same-window _ _ (sym (c .before .same-window .ensures) ∙ c .if3 .taken)))
 
 valid-cache-requires-2 : tie.Need-valid-cache-requires-2
 valid-cache-requires-2 c κs = search needs
