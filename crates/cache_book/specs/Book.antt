@@ -14,6 +14,7 @@ use Rattle.anchors_cache.specs.Tables.{view}
 use Rattle.anchors_cache.specs.Windows.{poppedTimes}
 use Rattle.anchors_cache.specs.Calls.{areaBytes, placesIn, validCache, onZero, answer, withCache, rowFor, addNumber, addCall, popCall, trimCall, clearCall, openCall, commitCall, rollbackCall, closeCall}
 
+-- document 01's book: "an opening and a present cache", and its mark, which `commit` sets and nothing unsets
 pub record Book : Type 0 where
   pub opening : Cache
   pub present : Cache

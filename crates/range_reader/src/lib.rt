@@ -68,7 +68,7 @@ pub struct ReadExternals {
     pub state: AnchorsCacheTransaction,
 }
 
-// What a read fixes at entry; `room` is the length of the lent output.
+// What a read fixes at entry. `saved_end` is document 01's saved end: the range's "to" as it is then. `room` is the length of the lent output.
 pub struct Context {
     pub shard: ShardIdent,
     pub seqno: u32,
