@@ -11,8 +11,6 @@ use borrow.Author.Tests.{eq-eqb, ne-eqb, leb-true}
 use Rattle.rows.specs.Rows.{pick}
 use Rattle.rows.proofs.Laws.{pick-yes, pick-no}
 use Rattle.anchors_cache.specs.declared.AnchorsCacheTransaction.{AnchorsCacheTransaction}
-use Rattle.anchors_cache.specs.declared.Done.{Done}
-use Rattle.anchors_cache.specs.Calls.{popsCall}
 use Rattle.anchors_cache.proofs.Asked.{refusal-parts}
 use Rattle.range_reader.specs.Rules.{Outcome}
 use Rattle.range_reader.specs.Ready.{Wrote}
@@ -25,9 +23,11 @@ use Rattle.externals_reader.specs.declared.Fixed.{Fixed}
 use Rattle.externals_reader.specs.declared.RangesRead.{RangesRead}
 use Rattle.externals_reader.specs.State.{settingsNumber}
 use Rattle.externals_reader.specs.Rules.{rangesRead}
-use Rattle.externals_reader.specs.Calls.{settledNumber, askedOfRead, fixedOf, atEntry, windowRead, importedIn, allRead, readerAfter, unchanged, allResult, readAllCall}
+use Rattle.externals_reader.specs.Calls.{settledNumber, askedOfRead, fixedOf, atEntry, windowRead, importedIn, allRead, unchanged, allResult, readAllCall}
+use Rattle.externals_reader.specs.Locals.{answerOf}
 use Rattle.externals_reader.specs.Ready.{Start}
 use Rattle.externals_reader.proofs.Sound.{sound-parts}
+use Rattle.externals_reader.proofs.TurnLaws.{window-fits, all-told, nothing-used}
 
 fits : (b : Bool) → _≡_ {A = ℕ} (pick b 0 4) 0 → b ≡ true
 fits true e = refl
@@ -65,13 +65,13 @@ module _ (tables area : List ℕ) (t : AnchorsCacheTransaction) (routes : List �
     unfolding readAllCall
     call-idle m q e = rw (asked, e) (sym (pick-yes (reader .«all_ranges_fully_read») _ _ m))
 
-    module _ (m : reader .«all_ranges_fully_read» ≡ false) (x : Fixed) (xe : x ≡ fixedOf reader mode (importedIn tables (t .cache)) (length out)) (start : RangesRead) (se : start ≡ atEntry (reader .«reader_state»)) where
-      pub call-start : length out < 2 ^ 64 → Start x start out
+    module _ (m : reader .«all_ranges_fully_read» ≡ false) (x : Fixed) (xe : x ≡ fixedOf reader mode (importedIn tables (t .cache)) (length out)) where
+      pub call-start : length out < 2 ^ 64 → Start x (atEntry (reader .«reader_state»)) out
       unfolding askedOfRead settledNumber
       call-start small =
           let s = first-zero _ _ (first-zero _ _ (first-zero _ _ (first-zero _ _ asked .1) .1) .1) .0 in
           let f = first-zero _ _ s in
-          rw (xe, se)
+          rw xe
           (record {
             after = record { few = record { read = λ i. zeros 8 i _; expired = λ i. zeros 8 i _; buffered = λ i. zeros 8 i _ }; pops = omega arith; used = omega arith };
             unused = refl;
@@ -84,31 +84,35 @@ module _ (tables area : List ℕ) (t : AnchorsCacheTransaction) (routes : List �
       whole : Outcome RangesRead
       whole = allRead tables area t routes reader mode (length out)
 
-      same : rangesRead (windowRead tables area t routes x) x start ≡ whole
+      same : rangesRead (windowRead tables area t routes x) x (atEntry (reader .«reader_state»)) ≡ whole
       unfolding whole allRead
-      same = rw (xe, se)
+      same = rw xe
 
       answered : readAllCall tables area t routes reader mode out ≡ allResult tables area t reader whole out
       unfolding readAllCall whole
       answered = rw asked (pick-no (reader .«all_ranges_fully_read») _ _ m)
 
-      module _ (d : RangesRead) (o : List ℕ) (w : Wrote false 0 out o d (rangesRead (windowRead tables area t routes x) x start)) where
+      module _ (d : RangesRead) (o : List ℕ) (w : Wrote false 0 out o d (rangesRead (windowRead tables area t routes x) x (atEntry (reader .«reader_state»)))) where
         first : d ≡ whole .value
         first = w .value ∙ ap (λ (s : Outcome RangesRead). s .value) same
 
         pub call-stopped : (d .number ≡ 0 → ⊥) → (q : ReadIntoBuffers) → q ≡ unchanged (d .number) reader t [] .answer → record { answer = q; out = o } ≡ readAllCall tables area t routes reader mode out
         call-stopped h q e =
             rw (e, w .out)
-            (sym (answered ∙ (ap (λ (v : RangesRead). pick (eqb (v .number) 0) (record { answer = record { number = 0; used = v .used; counts = v .counts; reader = readerAfter reader v; state = popsCall (length area) (v .pops) tables t .state }; out = sets out 0 (whole .entries) }) (unchanged (v .number) reader t out)) (sym first) ∙ pick-no (eqb (d .number) 0) _ _ (ne-eqb (d .number) 0 h))))
+            (sym (answered ∙ (ap (λ (v : RangesRead). pick (eqb (v .number) 0) (record { answer = answerOf tables area t reader v; out = sets out 0 (whole .entries) }) (unchanged (v .number) reader t out)) (sym first) ∙ pick-no (eqb (d .number) 0) _ _ (ne-eqb (d .number) 0 h))))
 
-        pub call-done : d .number ≡ 0 → (r : RangesRead) (o′ : List ℕ) → Wrote true 0 o o′ r (rangesRead (windowRead tables area t routes x) x start) → (p : Done) → p ≡ popsCall (length area) (r .pops) tables t → (after : ExternalsReader) → after ≡ readerAfter reader r
-            → record { answer = record { number = 0; used = r .used; counts = r .counts; reader = after; state = p .state }; out = o′ } ≡ readAllCall tables area t routes reader mode out
-        call-done z r o′ v p pe after ae =
+        pub call-done : d .number ≡ 0 → (r : RangesRead) (o′ : List ℕ) → Wrote true 0 o o′ r (rangesRead (windowRead tables area t routes x) x (atEntry (reader .«reader_state»))) → (q : ReadIntoBuffers) → q ≡ answerOf tables area t reader r
+            → record { answer = q; out = o′ } ≡ readAllCall tables area t routes reader mode out
+        call-done z r o′ v q e =
             let f : r ≡ whole .value = v .value ∙ ap (λ (s : Outcome RangesRead). s .value) same in
             let b : o′ ≡ sets out 0 (whole .entries) = v .out ∙ rw (w .out) (ap (λ (s : Outcome RangesRead). sets out 0 (s .entries)) same) in
-            rw (pe, ae, b)
-            (sym (answered ∙ (ap (λ (v : RangesRead). pick (eqb (v .number) 0) (record { answer = record { number = 0; used = v .used; counts = v .counts; reader = readerAfter reader v; state = popsCall (length area) (v .pops) tables t .state }; out = sets out 0 (whole .entries) }) (unchanged (v .number) reader t out)) (sym f) ∙ pick-yes (eqb (r .number) 0) _ _ (eq-eqb (r .number) 0 (ap (λ (v : RangesRead). v .number) (f ∙ sym first) ∙ z)))))
+            rw (e, b)
+            (sym (answered ∙ (ap (λ (v : RangesRead). pick (eqb (v .number) 0) (record { answer = answerOf tables area t reader v; out = sets out 0 (whole .entries) }) (unchanged (v .number) reader t out)) (sym f) ∙ pick-yes (eqb (r .number) 0) _ _ (eq-eqb (r .number) 0 (ap (λ (v : RangesRead). v .number) (f ∙ sym first) ∙ z)))))
+
+        -- where the first run used no byte, it is the whole read
+        pub call-silent : length out < 2 ^ 64 → d .number ≡ 0 → d .used ≡ 0 → (q : ReadIntoBuffers) → q ≡ answerOf tables area t reader d → record { answer = q; out = o } ≡ readAllCall tables area t routes reader mode out
+        call-silent small z u = call-done z d o (nothing-used out o d _ w (all-told (windowRead tables area t routes x) (window-fits tables area t routes x) x false (atEntry (reader .«reader_state»)) out (call-start small)) u)
 
         -- the first run wrote nothing, so the second starts as the first did
-        pub call-again : length out < 2 ^ 64 → Start x start o
+        pub call-again : length out < 2 ^ 64 → Start x (atEntry (reader .«reader_state»)) o
         call-again small = rw (w .out) (call-start small)

@@ -30,9 +30,9 @@ module _ {A : Type 0} (none : A) (of : ExternalsRangeReaderState → A) (l : Lis
   last-none zero h = refl
   last-none (suc k) h = absurd (omega arith)
 
-  pub last-some : (len : ℕ) → (len ≡ 0 → ⊥) → of (getD l (len - 1) noRange) ≡ lastOr none of len l
-  last-some zero h = absurd (h refl)
-  last-some (suc k) h = ap (λ (i : ℕ). of (getD l i noRange)) (omega arith)
+  pub last-some : (len : ℕ) → (len ≡ 0 → ⊥) → (range : ExternalsRangeReaderState) → getD l (len - 1) noRange ≡ range → of range ≡ lastOr none of len l
+  last-some zero h range e = absurd (h refl)
+  last-some (suc k) h range e = ap of (sym e) ∙ ap (λ (i : ℕ). of (getD l i noRange)) (omega arith)
 
 pub by-no : {A : Type 0} (n : ℕ) (done refused : A) → (n ≡ 0 → ⊥) → refused ≡ pick (eqb n 0) done refused
 by-no n done refused h = rw (ne-eqb n 0 h)

@@ -6,13 +6,16 @@ use mathlib.Core.List.{List, [], _∷_}
 use native.Mathlib.Omega.{arith}
 use native.Mathlib.Numerals.{add-one}
 use lib.Dec.{leb}
-use lib.ListN.{length, getD}
+use lib.ListN.{length, getD, take}
 use borrow.Author.Tests.{eqb-true, leb-true, lt-leb, le-leb}
 use Rattle.rows.specs.Rows.{pick, part}
 use Rattle.rows.proofs.Laws.{part-cons, and-true, pick-yes, pick-no}
 use Rattle.externals_reader.specs.declared.ExternalsReaderState.{ExternalsReaderState}
+use Rattle.externals_reader.specs.declared.ExternalsReader.{ExternalsReader}
+use Rattle.externals_reader.specs.Calls.{settledNumber}
 use Rattle.externals_reader.specs.State.{noRange, heldRanges, rangeSound, soundFrom, stateNumber, settingsNumber}
-use Rattle.messages_buffer.specs.Fullness.{limitsNumber, partitionsNumber}
+use Rattle.externals_reader.specs.Locals.{rangesNumber, piecesNumber}
+use Rattle.messages_buffer.specs.Fullness.{firstNo, limitsNumber, partitionsNumber}
 use Rattle.range_reader.specs.declared.ExternalsRangeReaderState.{ExternalsRangeReaderState}
 use Rattle.range_reader.proofs.Numbers.{first-no, first-yes, first-alone}
 
@@ -41,22 +44,27 @@ sound-counts low (r ∷ l) e zero h = eqb-true _ _ (and-true (leb low (r .seqno)
 sound-counts low (r ∷ l) e (suc i) h = sound-counts (suc (r .seqno)) l (and-true (rangeSound low r) _ e .1) i (omega arith)
 
 -- ---- question 5
-module _ (state : ExternalsReaderState) where
-  pub too-many-ranges : 16 < state .len → 5 ≡ stateNumber state
-  unfolding stateNumber
-  too-many-ranges h = rw (lt-leb (state .len) 16 h)
+module _ (ranges : List ExternalsRangeReaderState) (len : ℕ) where
+  pub too-many-ranges : 16 < len → 5 ≡ rangesNumber ranges len
+  unfolding rangesNumber
+  too-many-ranges h = rw (lt-leb len 16 h)
 
-  pub unsound-ranges : soundFrom 0 (heldRanges state) ≡ false → 5 ≡ stateNumber state
-  unfolding stateNumber
-  unsound-ranges e = sym (pick-no _ _ _ (ap (λ (b : Bool). leb (state .len) 16 && b) e ∙ and-no (leb (state .len) 16)))
+  pub unsound-ranges : soundFrom 0 (take len ranges) ≡ false → 5 ≡ rangesNumber ranges len
+  unfolding rangesNumber
+  unsound-ranges e = sym (pick-no _ _ _ (ap (λ (b : Bool). leb len 16 && b) e ∙ and-no (leb len 16)))
     where
       and-no : (b : Bool) → (b && false) ≡ false
       and-no true = refl
       and-no false = refl
 
-  pub sound-state : state .len ≤ 16 → soundFrom 0 (heldRanges state) ≡ true → 0 ≡ stateNumber state
-  unfolding stateNumber
-  sound-state h e = sym (pick-yes _ _ _ (ap (λ (b : Bool). b && soundFrom 0 (heldRanges state)) (le-leb (state .len) 16 h) ∙ e))
+  pub sound-table : len ≤ 16 → soundFrom 0 (take len ranges) ≡ true → 0 ≡ rangesNumber ranges len
+  unfolding rangesNumber
+  sound-table h e = sym (pick-yes _ _ _ (ap (λ (b : Bool). b && soundFrom 0 (take len ranges)) (le-leb len 16 h) ∙ e))
+
+module _ (state : ExternalsReaderState) where
+  pub by-ranges : rangesNumber (state .ranges) (state .len) ≡ stateNumber state
+  unfolding rangesNumber stateNumber
+  by-ranges = refl
 
   -- what question 5 gives to a call that goes on
   pub sound-parts : stateNumber state ≡ 0 → (state .len ≤ 16) × (soundFrom 0 (heldRanges state) ≡ true)
@@ -68,6 +76,10 @@ module _ (state : ExternalsReaderState) where
       yes-0 : (b : Bool) → _≡_ {A = ℕ} (pick b 0 5) 0 → b ≡ true
       yes-0 true q = refl
       yes-0 false q = absurd (omega arith)
+
+pub by-pieces : (r : ExternalsReader) (n : ℕ) → n ≡ piecesNumber (r .«buffer_limits_by_partitions») (r .«msgs_exec_params» .«open_ranges_limit») (r .«reader_state» .ranges) (r .«reader_state» .len) → n ≡ settledNumber r
+unfolding settledNumber
+by-pieces r n e = e ∙ ap (λ (m : ℕ). firstNo (settingsNumber (r .«buffer_limits_by_partitions») (r .«msgs_exec_params» .«open_ranges_limit») ∷ m ∷ [])) (by-ranges (r .«reader_state»))
 
 -- ---- question 4
 module _ (limits : List ℕ) (most : ℕ) where

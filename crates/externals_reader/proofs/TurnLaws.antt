@@ -1,14 +1,14 @@
 -- The turns of a read of all: what each adds, where it writes, and its bounds.
-use Prim.Native.Nat.{ℕ, zero, suc, _+_, _-_, _*_, _<_, _≤_, _^_}
+use Prim.Native.Nat.{ℕ, zero, suc, _+_, _-_, _*_, _<_, _≤_}
 use mathlib.Core.Path.{_≡_, refl, sym, ap, _∙_}
-use mathlib.Core.Bool.{Bool, true, false, not, _&&_}
+use mathlib.Core.Bool.{Bool, true, false, not, _&&_, _||_}
 use mathlib.Core.List.{List, [], _∷_, _++_, append-nil}
 use native.Mathlib.Omega.{arith}
 use lib.Dec.{eqb}
 use lib.ListN.{length, getD, set, take, drop, replicate, length-replicate, length-append, length-take, length-drop, drop-of-length-le, take-append-drop}
-use lib.Seq.{sets, take-all, length-take-le, length-sets}
+use lib.Seq.{sets, set-set, getD-set-same, take-all, length-take-le, length-sets}
 use borrow.Rule.Slice.PartMut.{putMid, midOf, put-same}
-use borrow.Author.Tests.{eq-eqb, ne-eqb}
+use borrow.Author.Tests.{eq-eqb, ne-eqb, eqb-false}
 use Rattle.rows.specs.Rows.{pick}
 use Rattle.rows.proofs.Laws.{pick-yes, pick-no, sets-append}
 use Rattle.messages_buffer.specs.Fullness.{firstNo}
@@ -27,11 +27,14 @@ use Rattle.range_book.proofs.Laws.{AtMost}
 use Rattle.range_book.proofs.Bounds.{Bounded, every-answer-is-bounded, a-read-with-number-0-stores-its-entries}
 use Rattle.externals_reader.specs.declared.Fixed.{Fixed}
 use Rattle.externals_reader.specs.declared.RangesRead.{RangesRead}
+use Rattle.externals_reader.specs.declared.SoFar.{SoFar}
+use Rattle.externals_reader.specs.declared.TurnDone.{TurnDone}
 use Rattle.externals_reader.specs.State.{noRange}
 use Rattle.externals_reader.specs.Each.{each}
-use Rattle.externals_reader.specs.Rules.{isSkipped, modeFor, settled, sums, countsAdded, Told, numbered, notAllRead, afterTurn, OneRange, readTurn, turn, isOver, turns, appended, rangesRead, wantsNext}
+use Rattle.externals_reader.specs.Rules.{nextRange, isSkipped, modeFor, settled, sums, countsAdded, Told, numbered, notAllRead, afterTurn, OneRange, readTurn, turn, isOver, turns, appended, rangesRead, wantsNext}
 use Rattle.externals_reader.specs.Calls.{told, windowRead}
-use Rattle.externals_reader.specs.Ready.{After, Ready, Start, TurnReady, RangeWrote}
+use Rattle.externals_reader.specs.Locals.{readOf, turnDone}
+use Rattle.externals_reader.specs.Ready.{After, Ready, Start, TurnReady, RangeWrote, TurnWrote}
 use Rattle.externals_reader.proofs.Laws.{next-below}
 
 -- ---- one range's read, as the turn uses it
@@ -99,17 +102,43 @@ sets-behind a b i [] = refl
 sets-behind a b i (v ∷ vs) = let e : suc (length a + i) ≡ length a + suc i = omega arith in rw (set-behind a b i v, e) (sets-behind a (set b i v) (suc i) vs)
 
 -- ---- what a turn adds
-module _ (x : Fixed) (i : ℕ) (r : RangesRead) (a : Told) where
-  pub after-refused : (a .number ≡ 0 → ⊥) → numbered (a .number) r ≡ afterTurn x i r a
-  unfolding afterTurn
-  after-refused h = sym (pick-no (eqb (a .number) 0) _ _ (ne-eqb (a .number) 0 h))
+module _ (x : Fixed) (s : SoFar) (range : ExternalsRangeReaderState) (a : Told) where
+  pub done-refused : (a .number ≡ 0 → ⊥)
+      → _≡_ {A = TurnDone} (record { «so_far» = record { number = a .number; pops = s .pops; used = s .used; «all_read» = s .«all_read»; stopped = s .stopped; last = s .last; counts = s .counts }; range = range }) (turnDone x s range a)
+  unfolding turnDone
+  done-refused h = sym (pick-no (eqb (a .number) 0) _ _ (ne-eqb (a .number) 0 h))
 
-  module _ (all-read stopped : Bool) (counts : ReadCounts) (range : ExternalsRangeReaderState)
-      (ae : all-read ≡ (r .«all_read» && a .range .«fully_read»)) (se : stopped ≡ (a .full && not (a .range .«fully_read»))) (ce : counts ≡ countsAdded (r .counts) (a .counts)) (re : range ≡ settled x (a .range)) where
-    pub after-done : a .number ≡ 0
-        → _≡_ {A = RangesRead} (record { number = 0; pops = r .pops + a .pops; used = r .used + a .used; «all_read» = all-read; stopped = stopped; last = a .last; counts = counts; ranges = set (r .ranges) i range; len = r .len }) (afterTurn x i r a)
-    unfolding afterTurn
-    after-done z = rw (ae, se, ce, re) (sym (pick-yes (eqb (a .number) 0) _ _ (eq-eqb (a .number) 0 z)))
+  module _ (all-read stopped : Bool) (counts : ReadCounts) (next : ExternalsRangeReaderState)
+      (ae : all-read ≡ (s .«all_read» && a .range .«fully_read»)) (se : stopped ≡ (a .full && not (a .range .«fully_read»))) (ce : counts ≡ countsAdded (s .counts) (a .counts)) (re : next ≡ settled x (a .range)) where
+    pub done-read : a .number ≡ 0
+        → _≡_ {A = TurnDone} (record { «so_far» = record { number = 0; pops = s .pops + a .pops; used = s .used + a .used; «all_read» = all-read; stopped = stopped; last = a .last; counts = counts }; range = next }) (turnDone x s range a)
+    unfolding turnDone
+    done-read z = rw (ae, se, ce, re) (sym (pick-yes (eqb (a .number) 0) _ _ (eq-eqb (a .number) 0 z)))
+
+-- ---- a range among the others
+set-same : {A : Type 0} (l : List A) (i : ℕ) (d : A) → set l i (getD l i d) ≡ l
+set-same [] i d = refl
+set-same (v ∷ l) zero d = refl
+set-same (v ∷ l) (suc i) d = ap (_∷_ v) (set-same l i d)
+
+module _ (ranges : List ExternalsRangeReaderState) (i : ℕ) (range : ExternalsRangeReaderState) (here : getD ranges i noRange ≡ range) where
+  stays : set ranges i range ≡ ranges
+  stays = ap (set ranges i) (sym here) ∙ set-same ranges i noRange
+
+  module _ (x : Fixed) (s : SoFar) (len : ℕ) (a : Told) where
+    abbrev read-done : TurnDone
+    read-done = record { «so_far» = record { number = 0; pops = s .pops + a .pops; used = s .used + a .used; «all_read» = s .«all_read» && a .range .«fully_read»; stopped = a .full && not (a .range .«fully_read»); last = a .last; counts = countsAdded (s .counts) (a .counts) }; range = settled x (a .range) }
+
+    abbrev refused-done : TurnDone
+    refused-done = record { «so_far» = record { number = a .number; pops = s .pops; used = s .used; «all_read» = s .«all_read»; stopped = s .stopped; last = s .last; counts = s .counts }; range = range }
+
+    done-at : readOf (turnDone x s range a .«so_far») (set ranges i (turnDone x s range a .range)) len ≡ afterTurn x i (readOf s ranges len) a
+    unfolding turnDone afterTurn
+    done-at = go (eqb (a .number) 0)
+      where
+        go : (b : Bool) → readOf (pick b read-done refused-done .«so_far») (set ranges i (pick b read-done refused-done .range)) len ≡ pick b (readOf (read-done .«so_far») (set ranges i (settled x (a .range))) len) (numbered (a .number) (readOf s ranges len))
+        go true = refl
+        go false = rw stays
 
 -- ---- one range's read, writing or not
 module _ (tables area : List ℕ) (t : AnchorsCacheTransaction) (routes : List ℕ) (x : Fixed) (range : ExternalsRangeReaderState) (out : List ℕ) (write : Bool) (mode : ReadNextExternalsMode) (me : mode ≡ modeFor x (range .seqno)) (a : ReadExternals) (o : List ℕ) where
@@ -139,73 +168,92 @@ lent-on used out es h =
     let g : sets (take used out ++ drop used out) used es ≡ take used out ++ sets (drop used out) 0 es = rw (k, z) at (sets-behind (take used out) (drop used out) 0 es) in
     rw (e, d, append-nil (sets (drop used out) 0 es)) (sym (rw (take-append-drop used out) at g))
 
-module _ (one : OneRange) (x : Fixed) (i : ℕ) (r : RangesRead) (write : Bool) (out : List ℕ) where
+module _ (one : OneRange) (x : Fixed) (i : ℕ) (r : RangesRead) where
   abbrev range-i : ExternalsRangeReaderState
   range-i = getD (r .ranges) i noRange
 
-  pub turn-passed : range-i .«fully_read» ≡ true → Wrote write (r .used) out out r (turn one x i r)
+  passes : range-i .«fully_read» ≡ true → turn one x i r ≡ silent r
   unfolding turn
-  turn-passed h = rw h (record { value = refl; out = pick-same write _ _ refl })
+  passes h = rw h
 
-  pub turn-skipped : (q : RangesRead) → range-i .«fully_read» ≡ false → isSkipped x range-i ≡ true → q ≡ notAllRead r → Wrote write (r .used) out out q (turn one x i r)
+  skips : range-i .«fully_read» ≡ false → isSkipped x range-i ≡ true → turn one x i r ≡ silent (notAllRead r)
   unfolding turn
-  turn-skipped q h k e = rw (h, k) (record { value = e; out = pick-same write _ _ refl })
+  skips h k = rw (h, k)
 
-  turn-reads : range-i .«fully_read» ≡ false → isSkipped x range-i ≡ false → turn one x i r ≡ readTurn one x i r range-i
+  reads : range-i .«fully_read» ≡ false → isSkipped x range-i ≡ false → turn one x i r ≡ readTurn one x i r range-i
   unfolding turn
-  turn-reads h k = rw (h, k)
+  reads h k = rw (h, k)
 
-module _ (tables area : List ℕ) (t : AnchorsCacheTransaction) (routes : List ℕ) (x : Fixed) (i : ℕ) (r : RangesRead) (write : Bool) (out : List ℕ) (roomy : r .used ≤ length out) (room : length out ≡ x .room)
-    (p : Done) (pe : p ≡ popsCall (length area) (r .pops) tables t) (a : ReadExternals) (o : List ℕ)
-    (w : RangeWrote write tables area (p .state) routes x (getD (r .ranges) i noRange) (midOf (r .used) (length out - r .used) out) o a) where
-  abbrev range-now : ExternalsRangeReaderState
-  range-now = getD (r .ranges) i noRange
+module _ (one : OneRange) (x : Fixed) (s : SoFar) (range : ExternalsRangeReaderState) (write : Bool) (out : List ℕ) where
+  pub turn-passed : range .«fully_read» ≡ true → TurnWrote write one x s range out out (record { «so_far» = s; range = range })
+  turn-passed h = record {
+    at = λ ranges i len e.
+        rw (stays ranges i range e, passes one x i (readOf s ranges len) (ap (λ (v : ExternalsRangeReaderState). v .«fully_read») e ∙ h))
+        (record { value = refl; out = pick-same write _ _ refl });
+  }
 
+  pub turn-skipped : range .«fully_read» ≡ false → isSkipped x range ≡ true
+      → TurnWrote write one x s range out out (record { «so_far» = record { number = s .number; pops = s .pops; used = s .used; «all_read» = false; stopped = s .stopped; last = s .last; counts = s .counts }; range = range })
+  turn-skipped h k = record {
+    at = λ ranges i len e.
+        rw (stays ranges i range e, skips one x i (readOf s ranges len) (ap (λ (v : ExternalsRangeReaderState). v .«fully_read») e ∙ h) (ap (isSkipped x) e ∙ k))
+        (record { value = refl; out = pick-same write _ _ refl });
+  }
+
+module _ (tables area : List ℕ) (t : AnchorsCacheTransaction) (routes : List ℕ) (x : Fixed) (s : SoFar) (range : ExternalsRangeReaderState) (write : Bool) (out : List ℕ) (ready : Ready x s out)
+    (p : Done) (pe : p ≡ popsCall (length area) (s .pops) tables t) (a : ReadExternals) (o : List ℕ)
+    (w : RangeWrote write tables area (p .state) routes x range (midOf (s .used) (length out - s .used) out) o a) where
   abbrev rest : List ℕ
-  rest = midOf (r .used) (length out - r .used) out
+  rest = midOf (s .used) (length out - s .used) out
 
   abbrev one-now : Outcome Told
-  one-now = windowRead tables area t routes x (r .pops) (modeFor x (range-now .seqno)) range-now (x .room - r .used)
+  one-now = windowRead tables area t routes x (s .pops) (modeFor x (range .seqno)) range (x .room - s .used)
 
-  rest-length : length rest ≡ x .room - r .used
-  rest-length = simp (length-take, length-drop) (omega (arith, room))
+  rest-length : length rest ≡ x .room - s .used
+  rest-length = simp (length-take, length-drop) (omega (arith, ready .room))
 
   abbrev read-now : AnchorsCacheTransaction → ReadResult
-  read-now u = readCall tables area u (x .shard) routes (x .limits) (x .processed) (x .params .«externals_expire_timeout») (modeFor x (range-now .seqno)) range-now rest
+  read-now u = readCall tables area u (x .shard) routes (x .limits) (x .processed) (x .params .«externals_expire_timeout») (modeFor x (range .seqno)) range rest
 
-  answered : a ≡ read-now (popsCall (length area) (r .pops) tables t .state) .answer
+  answered : a ≡ read-now (popsCall (length area) (s .pops) tables t .state) .answer
   answered = w .answer ∙ ap (λ (d : Done). read-now (d .state) .answer) pe
 
-  pub turn-ready : i < 16 → After 16 (x .room) r → x .room < 2 ^ 64 → TurnReady i r a
-  turn-ready s b fits =
-      let c = every-answer-is-bounded tables area (popsCall (length area) (r .pops) tables t .state) (x .shard) routes (x .limits) (x .processed) (x .params .«externals_expire_timeout») (modeFor x (range-now .seqno)) range-now rest a answered in
+  pub turn-ready : TurnReady s a
+  turn-ready =
+      let c = every-answer-is-bounded tables area (popsCall (length area) (s .pops) tables t .state) (x .shard) routes (x .limits) (x .processed) (x .params .«externals_expire_timeout») (modeFor x (range .seqno)) range rest a answered in
       record {
-        slot = s;
         counts = record {
-          read = λ j. omega (arith, b .few .read j, c .counts .read j);
-          expired = λ j. omega (arith, b .few .expired j, c .counts .expired j);
-          buffered = λ j. omega (arith, b .few .buffered j, c .counts .buffered j);
+          read = λ j. omega (arith, ready .few .read j, c .counts .read j);
+          expired = λ j. omega (arith, ready .few .expired j, c .counts .expired j);
+          buffered = λ j. omega (arith, ready .few .buffered j, c .counts .buffered j);
         };
-        pops = omega (arith, b .pops, c .pops);
-        used = omega (arith, c .used, rest-length);
+        pops = omega (arith, ready .pops, c .pops);
+        used = omega (arith, ready .used, ready .small, c .used, rest-length);
       }
 
-  pub turn-lent : range-now .«fully_read» ≡ false → isSkipped x range-now ≡ false → (q : RangesRead) → q ≡ afterTurn x i r (told a)
-      → Wrote write (r .used) out (putMid (r .used) (length out - r .used) out o) q (turn (windowRead tables area t routes x) x i r)
-  turn-lent h k q qe = rw (turn-reads (windowRead tables area t routes x) x i r write out h k) (record { value = value; out = bytes write (w .out) })
+  pub turn-lent : range .«fully_read» ≡ false → isSkipped x range ≡ false → (q : TurnDone) → q ≡ turnDone x s range (told a)
+      → TurnWrote write (windowRead tables area t routes x) x s range out (putMid (s .used) (length out - s .used) out o) q
+  turn-lent h k q qe = record { at = λ ranges i len e. rw (turn-at ranges i len e) (record { value = value ranges i len e; out = bytes write (w .out) }) }
     where
-      told-now : one-now .value ≡ told a
-      told-now = rw rest-length at (one-told tables area t routes x (r .pops) (modeFor x (range-now .seqno)) range-now rest) ∙ ap told (sym answered)
+      turn-at : (ranges : List ExternalsRangeReaderState) (i len : ℕ) → getD ranges i noRange ≡ range → turn (windowRead tables area t routes x) x i (readOf s ranges len) ≡ record { value = afterTurn x i (readOf s ranges len) (one-now .value); entries = one-now .entries }
+      turn-at ranges i len e =
+          reads (windowRead tables area t routes x) x i (readOf s ranges len) (ap (λ (v : ExternalsRangeReaderState). v .«fully_read») e ∙ h) (ap (isSkipped x) e ∙ k)
+          ∙ ap (readTurn (windowRead tables area t routes x) x i (readOf s ranges len)) e
 
-      value : q ≡ afterTurn x i r (one-now .value)
-      value = qe ∙ ap (afterTurn x i r) (sym told-now)
+      told-now : one-now .value ≡ told a
+      told-now = rw rest-length at (one-told tables area t routes x (s .pops) (modeFor x (range .seqno)) range rest) ∙ ap told (sym answered)
+
+      value : (ranges : List ExternalsRangeReaderState) (i len : ℕ) → getD ranges i noRange ≡ range → readOf (q .«so_far») (set ranges i (q .range)) len ≡ afterTurn x i (readOf s ranges len) (one-now .value)
+      value ranges i len e =
+          ap (λ (d : TurnDone). readOf (d .«so_far») (set ranges i (d .range)) len) qe
+          ∙ (done-at ranges i range e x s len (told a) ∙ ap (afterTurn x i (readOf s ranges len)) (sym told-now))
 
       stored : read-now (p .state) .out ≡ sets rest 0 (one-now .entries)
-      stored = ap (λ (d : Done). read-now (d .state) .out) pe ∙ rw rest-length at (one-stored tables area t routes x (r .pops) (modeFor x (range-now .seqno)) range-now rest)
+      stored = ap (λ (d : Done). read-now (d .state) .out) pe ∙ rw rest-length at (one-stored tables area t routes x (s .pops) (modeFor x (range .seqno)) range rest)
 
-      bytes : (b : Bool) → o ≡ pick b (read-now (p .state) .out) rest → putMid (r .used) (length out - r .used) out o ≡ pick b (sets out (r .used) (one-now .entries)) out
-      bytes true e = rw (e ∙ stored) (lent-on (r .used) out (one-now .entries) roomy)
-      bytes false e = rw e (put-same (r .used) (length out - r .used) out)
+      bytes : (b : Bool) → o ≡ pick b (read-now (p .state) .out) rest → putMid (s .used) (length out - s .used) out o ≡ pick b (sets out (s .used) (one-now .entries)) out
+      bytes true e = rw (e ∙ stored) (lent-on (s .used) out (one-now .entries) (omega (arith, ready .used, ready .room)))
+      bytes false e = rw e (put-same (s .used) (length out - s .used) out)
 
 -- ---- bounds
 each-at-most : (n : ℕ) (f : ℕ → ℕ) (k : ℕ) → ((j : ℕ) → f j ≤ k) → (i : ℕ) → getD (each n f) i 0 ≤ k
@@ -281,12 +329,12 @@ module _ (one : OneRange) (fits : (pops : ℕ) (mode : ReadNextExternalsMode) (r
 
   pub turn-kept : (k : ℕ) → After k (x .room) r → Kept (k + 1) (turn one x i r)
   unfolding turn
-  turn-kept k a = go (range-i one x i r true [] .«fully_read») (isSkipped x (range-i one x i r true []))
+  turn-kept k a = go (range-i one x i r .«fully_read») (isSkipped x (range-i one x i r))
     where
-      go : (b c : Bool) → Kept (k + 1) (pick b (silent r) (pick c (silent (notAllRead r)) (readTurn one x i r (range-i one x i r true []))))
+      go : (b c : Bool) → Kept (k + 1) (pick b (silent r) (pick c (silent (notAllRead r)) (readTurn one x i r (range-i one x i r))))
       go true c = record { after = more k a; bytes = omega arith; len = refl }
       go false true = record { after = record { few = more k a .few; pops = more k a .pops; used = a .used }; bytes = omega arith; len = refl }
-      go false false = added k a (one (r .pops) (modeFor x (range-i one x i r true [] .seqno)) (range-i one x i r true []) (x .room - r .used)) (fits _ _ _ _)
+      go false false = added k a (one (r .pops) (modeFor x (range-i one x i r .seqno)) (range-i one x i r) (x .room - r .used)) (fits _ _ _ _)
 
 -- ---- the loop over the ranges
 turns-step : (one : OneRange) (x : Fixed) (left i : ℕ) (s : Outcome RangesRead) → 0 < left → isOver (s .value) ≡ false → turns one x left i s ≡ turns one x (left - 1) (i + 1) (followed s (turn one x i (s .value)))
@@ -294,15 +342,21 @@ unfolding turns
 turns-step one x zero i s h e = absurd (omega arith)
 turns-step one x (suc n) i s h e = let m : n ≡ suc n - 1 = omega arith in pick-no (isOver (s .value)) _ _ e ∙ ap (λ (k : ℕ). turns one x k (i + 1) (followed s (turn one x i (s .value)))) m
 
-turns-over : (one : OneRange) (x : Fixed) (left i : ℕ) (s : Outcome RangesRead) → isOver (s .value) ≡ true → turns one x left i s ≡ s
+turns-last : (one : OneRange) (x : Fixed) (left i : ℕ) (s : Outcome RangesRead) → (eqb left 0 || isOver (s .value)) ≡ true → turns one x left i s ≡ s
 unfolding turns
-turns-over one x zero i s e = refl
-turns-over one x (suc n) i s e = pick-yes (isOver (s .value)) _ _ e
+turns-last one x zero i s e = refl
+turns-last one x (suc n) i s e = pick-yes (isOver (s .value)) _ _ (rw (ne-eqb (suc n) 0 (λ q. omega (arith, q))) at e)
 
-turns-none : (one : OneRange) (x : Fixed) (left i : ℕ) (s : Outcome RangesRead) → left ≤ 0 → turns one x left i s ≡ s
-unfolding turns
-turns-none one x zero i s h = refl
-turns-none one x (suc n) i s h = absurd (omega arith)
+or-false : (a b : Bool) → (a || b) ≡ false → (a ≡ false) × (b ≡ false)
+or-false true b e = absurd (omega (arith, ap (λ (c : Bool). pick {A = ℕ} c 1 0) e))
+or-false false b e = (refl, e)
+
+more-left : (left : ℕ) → eqb left 0 ≡ false → 0 < left
+more-left zero e = absurd (eqb-false 0 0 e refl)
+more-left (suc n) e = omega arith
+
+pub left-some : (left : ℕ) (over : Bool) → (eqb left 0 || over) ≡ false → 0 < left
+left-some left over e = more-left left (or-false (eqb left 0) over e .0)
 
 written-more : (write : Bool) (out₀ out out′ es fs : List ℕ) (used : ℕ) → used ≡ length es → out ≡ pick write (sets out₀ 0 es) out₀ → out′ ≡ pick write (sets out used fs) out → out′ ≡ pick write (sets out₀ 0 (es ++ fs)) out₀
 written-more true out₀ out out′ es fs used u e f = f ∙ rw (e, u) (let z : 0 + length es ≡ length es = omega arith in sym (sets-append out₀ 0 es fs ∙ ap (λ (n : ℕ). sets (sets out₀ 0 es) n fs) z))
@@ -318,6 +372,9 @@ weaker k m room r h a = record { few = record { read = λ j. omega (arith, h, a 
 pub wrote-length : (write : Bool) (used : ℕ) (out out′ : List ℕ) (r : RangesRead) (s : Outcome RangesRead) → Wrote write used out out′ r s → length out′ ≡ length out
 wrote-length write used out out′ r s w = written-same write used out out′ (s .entries) (w .out)
 
+pub turn-length : (write : Bool) (one : OneRange) (x : Fixed) (s : SoFar) (range : ExternalsRangeReaderState) (out out′ : List ℕ) (q : TurnDone) → TurnWrote write one x s range out out′ q → length out′ ≡ length out
+turn-length write one x s range out out′ q w = wrote-length write (s .used) out out′ _ _ (w .at (range ∷ []) 0 0 refl)
+
 module _ (one : OneRange) (fits : (pops : ℕ) (mode : ReadNextExternalsMode) (range : ExternalsRangeReaderState) (room : ℕ) → Fits room (one pops mode range room)) (x : Fixed) (write : Bool) (start : RangesRead) (out₀ : List ℕ) where
   -- i ranges have had their turn, `left` have not; `entries` are those so far
   pub record Turning (r : RangesRead) (i left : ℕ) (out : List ℕ) : Type 0 where
@@ -332,8 +389,10 @@ module _ (one : OneRange) (fits : (pops : ℕ) (mode : ReadNextExternalsMode) (r
   pub turning-start : Start x start out₀ → Turning start 0 (start .len) out₀
   turning-start s = record { entries = []; counted = omega arith; after = s .after; bytes = s .unused; len = refl; wrote = pick-same write out₀ out₀ refl; walked = refl }
 
-  pub turning-next : (r : RangesRead) (i left : ℕ) (out : List ℕ) → Turning r i left out → 0 < left → isOver r ≡ false → (q : RangesRead) (out′ : List ℕ) → Wrote write (r .used) out out′ q (turn one x i r) → Turning q (i + 1) (left - 1) out′
-  turning-next r i left out h p e q out′ w =
+  pub turning-next : (r : RangesRead) (i left : ℕ) (out : List ℕ) → Turning r i left out → (eqb left 0 || isOver r) ≡ false → (q : RangesRead) (out′ : List ℕ) → Wrote write (r .used) out out′ q (turn one x i r) → Turning q (i + 1) (left - 1) out′
+  turning-next r i left out h g q out′ w =
+      let p = left-some left (isOver r) g in
+      let e = or-false (eqb left 0) (isOver r) g .1 in
       let k = turn-kept one fits x i r i (h .after) in
       let s = turn one x i r in
       record {
@@ -346,17 +405,19 @@ module _ (one : OneRange) (fits : (pops : ℕ) (mode : ReadNextExternalsMode) (r
         walked = rw (w .value) (sym (turns-step one x left i (record { value = r; entries = h .entries }) p e) ∙ h .walked);
       }
 
-  pub turning-over : (r : RangesRead) (i left : ℕ) (out : List ℕ) → Turning r i left out → isOver r ≡ true → Wrote write 0 out₀ out r (turns one x (start .len) 0 (silent start))
-  turning-over r i left out h e = rw (sym (h .walked) ∙ turns-over one x left i (record { value = r; entries = h .entries }) e) (record { value = refl; out = h .wrote })
-
-  pub turning-end : (r : RangesRead) (i left : ℕ) (out : List ℕ) → Turning r i left out → left ≤ 0 → Wrote write 0 out₀ out r (turns one x (start .len) 0 (silent start))
-  turning-end r i left out h e = rw (sym (h .walked) ∙ turns-none one x left i (record { value = r; entries = h .entries }) e) (record { value = refl; out = h .wrote })
+  pub turning-last : (r : RangesRead) (i left : ℕ) (out : List ℕ) → Turning r i left out → (eqb left 0 || isOver r) ≡ true → Wrote write 0 out₀ out r (turns one x (start .len) 0 (silent start))
+  turning-last r i left out h e = rw (sym (h .walked) ∙ turns-last one x left i (record { value = r; entries = h .entries }) e) (record { value = refl; out = h .wrote })
 
   pub turning-length : (r : RangesRead) (i left : ℕ) (out : List ℕ) → Turning r i left out → length out ≡ length out₀
   turning-length r i left out h = written-same write 0 out₀ out (h .entries) (h .wrote)
 
-  pub turning-ready : Start x start out₀ → (r : RangesRead) (i left : ℕ) (out : List ℕ) → Turning r i left out → 0 < left → Ready x i r out
-  turning-ready s r i left out h p = record { after = weaker i 16 (x .room) r (omega (arith, h .counted, s .slots)) (h .after); slot = omega (arith, h .counted, s .slots); room = turning-length r i left out h ∙ s .room; small = s .small }
+  pub turning-slot : Start x start out₀ → (r : RangesRead) (i left : ℕ) (out : List ℕ) → Turning r i left out → (eqb left 0 || isOver r) ≡ false → i < 16
+  turning-slot st r i left out h e = omega (arith, h .counted, st .slots, left-some left (isOver r) e)
+
+  pub turning-ready : Start x start out₀ → (s : SoFar) (ranges : List ExternalsRangeReaderState) (len i left : ℕ) (out : List ℕ) → Turning (readOf s ranges len) i left out → Ready x s out
+  turning-ready st s ranges len i left out h =
+      let a = weaker i 16 (x .room) (readOf s ranges len) (omega (arith, h .counted, st .slots)) (h .after) in
+      record { few = a .few; pops = a .pops; used = a .used; room = turning-length (readOf s ranges len) i left out h ∙ st .room; small = st .small }
 
 -- ---- all the turns
 module _ (one : OneRange) (fits : (pops : ℕ) (mode : ReadNextExternalsMode) (range : ExternalsRangeReaderState) (room : ℕ) → Fits room (one pops mode range room)) (x : Fixed) where
@@ -382,48 +443,82 @@ module _ (one : OneRange) (fits : (pops : ℕ) (mode : ReadNextExternalsMode) (r
       go true t = more-told k (k + suc n) len s (omega arith) h
       go false t = more-told (k + 1 + n) (k + suc n) len _ (omega arith) t
 
-  module _ (write : Bool) (start : RangesRead) (out₀ : List ℕ) (st : Start x start out₀) (r : RangesRead) (out : List ℕ) (w : Wrote write 0 out₀ out r (turns one x (start .len) 0 (silent start))) where
+  module _ (r : RangesRead) where
+    used-kept : appended x r .used ≡ r .used
+    unfolding appended
+    used-kept = refl
+
+    after-kept : (k : ℕ) → After k (x .room) r → After k (x .room) (appended x r)
+    unfolding appended
+    after-kept k a = record { few = a .few; pops = a .pops; used = a .used }
+
+  module _ (write : Bool) (start : RangesRead) (out₀ : List ℕ) (st : Start x start out₀) where
     abbrev whole : Outcome RangesRead
     whole = turns one x (start .len) 0 (silent start)
 
     whole-told : Told-bytes 16 (start .len) whole
     whole-told = more-told (0 + start .len) 16 (start .len) whole (omega (arith, st .slots)) (turns-told (start .len) 0 (start .len) 0 (silent start) (record { after = st .after; bytes = st .unused; same-len = refl }))
 
-    pub all-len : r .len ≤ 16
-    all-len = omega (arith, st .slots, ap (λ (q : RangesRead). q .len) (w .value), whole-told .same-len)
+    -- with the next range's turn
+    abbrev longer : Outcome RangesRead
+    longer = followed whole (turn one x (whole .value .len) (appended x (whole .value)))
 
-    pub all-bytes : length out ≡ length out₀
-    all-bytes = written-same write 0 out₀ out (whole .entries) (w .out)
+    longer-told : longer .value .used ≡ length (longer .entries)
+    longer-told =
+        let t = turn one x (whole .value .len) (appended x (whole .value)) in
+        turn-kept one fits x (whole .value .len) (appended x (whole .value)) 16 (after-kept (whole .value) 16 (whole-told .after)) .bytes
+        ∙ (ap (λ (n : ℕ). n + length (t .entries)) (used-kept (whole .value) ∙ whole-told .bytes) ∙ sym (length-append (whole .entries) (t .entries)))
 
-    pub next-room : wantsNext x r ≡ true → r .len < 16
-    next-room h = omega (arith, st .limit, next-below x r h)
-
-    pub next-ready : (q : RangesRead) → q ≡ appended x r → wantsNext x r ≡ true → Ready x (r .len) q out
-    unfolding appended
-    next-ready q e h =
-        let a : After 16 (x .room) r = rw (w .value) (whole-told .after) in
-        record {
-          after = rw e (record { few = a .few; pops = a .pops; used = a .used });
-          slot = next-room h;
-          room = all-bytes ∙ st .room;
-          small = st .small;
-        }
-
-    pub all-done : wantsNext x r ≡ false → Wrote write 0 out₀ out r (rangesRead one x start)
+    -- the bytes that the read of all tells are those of its entries
+    pub all-told : rangesRead one x start .value .used ≡ length (rangesRead one x start .entries)
     unfolding rangesRead
-    all-done h = rw (pick-no (wantsNext x (whole .value)) (followed whole (turn one x (whole .value .len) (appended x (whole .value)))) whole (ap (wantsNext x) (sym (w .value)) ∙ h)) (record { value = w .value; out = w .out })
+    all-told = go (wantsNext x (whole .value))
+      where
+        go : (b : Bool) → pick b longer whole .value .used ≡ length (pick b longer whole .entries)
+        go true = longer-told
+        go false = whole-told .bytes
 
-    used-kept : appended x r .used ≡ r .used
-    unfolding appended
-    used-kept = refl
+    module _ (s : SoFar) (ranges : List ExternalsRangeReaderState) (len : ℕ) (out : List ℕ) (w : Wrote write 0 out₀ out (readOf s ranges len) (turns one x (start .len) 0 (silent start))) where
+      abbrev now : RangesRead
+      now = readOf s ranges len
 
-    pub next-done : wantsNext x r ≡ true → (q : RangesRead) → q ≡ appended x r → (z : RangesRead) (out′ : List ℕ) → Wrote write (q .used) out out′ z (turn one x (r .len) q) → Wrote write 0 out₀ out′ z (rangesRead one x start)
-    unfolding rangesRead
-    next-done h q e z out′ v =
-        let f : turn one x (r .len) q ≡ turn one x (whole .value .len) (appended x (whole .value)) = rw e (ap (λ (y : RangesRead). turn one x (y .len) (appended x y)) (w .value)) in
-        let u : q .used ≡ length (whole .entries) = ap (λ (y : RangesRead). y .used) e ∙ (used-kept ∙ (ap (λ (y : RangesRead). y .used) (w .value) ∙ whole-told .bytes)) in
-        rw (pick-yes (wantsNext x (whole .value)) (followed whole (turn one x (whole .value .len) (appended x (whole .value)))) whole (ap (wantsNext x) (sym (w .value)) ∙ h))
-        (record {
-          value = v .value ∙ ap (λ (s : Outcome RangesRead). s .value) f;
-          out = written-more write out₀ out out′ (whole .entries) (turn one x (whole .value .len) (appended x (whole .value)) .entries) (q .used) u (w .out) (v .out ∙ ap (λ (s : Outcome RangesRead). pick write (sets out (q .used) (s .entries)) out) f);
-        })
+      all-bytes : length out ≡ length out₀
+      all-bytes = written-same write 0 out₀ out (whole .entries) (w .out)
+
+      pub next-room : wantsNext x (readOf s ranges len) ≡ true → len < 16
+      next-room h = omega (arith, st .limit, next-below x now h)
+
+      pub next-ready : Ready x s out
+      next-ready =
+          let a : After 16 (x .room) now = rw (w .value) (whole-told .after) in
+          record { few = a .few; pops = a .pops; used = a .used; room = all-bytes ∙ st .room; small = st .small }
+
+      pub all-done : wantsNext x (readOf s ranges len) ≡ false → Wrote write 0 out₀ out (readOf s ranges len) (rangesRead one x start)
+      unfolding rangesRead
+      all-done h = rw (pick-no (wantsNext x (whole .value)) longer whole (ap (wantsNext x) (sym (w .value)) ∙ h)) (record { value = w .value; out = w .out })
+
+      appended-at : (range : ExternalsRangeReaderState) → range ≡ nextRange (x .«block_seqno») (x .«next_chain_time») (x .«by_partitions») ranges len → readOf s (set ranges len range) (len + 1) ≡ appended x (readOf s ranges len)
+      unfolding appended
+      appended-at range e = ap (λ (y : ExternalsRangeReaderState). readOf s (set ranges len y) (len + 1)) e
+
+      pub next-done : wantsNext x (readOf s ranges len) ≡ true → length ranges ≡ 16 → (range : ExternalsRangeReaderState) → range ≡ nextRange (x .«block_seqno») (x .«next_chain_time») (x .«by_partitions») ranges len
+          → (q : TurnDone) (out′ : List ℕ) → TurnWrote write one x s range out out′ q → Wrote write 0 out₀ out′ (readOf (q .«so_far») (set ranges len (q .range)) (len + 1)) (rangesRead one x start)
+      unfolding rangesRead
+      next-done h long range re q out′ v =
+          let e : readOf s (set ranges len range) (len + 1) ≡ appended x now = appended-at range re in
+          let z = v .at (set ranges len range) len (len + 1) (getD-set-same ranges len range noRange (omega (arith, long, next-room h))) in
+          let f : turn one x len (readOf s (set ranges len range) (len + 1)) ≡ turn one x (whole .value .len) (appended x (whole .value)) = ap (turn one x len) e ∙ ap (λ (y : RangesRead). turn one x (y .len) (appended x y)) (w .value) in
+          let u : s .used ≡ length (whole .entries) = ap (λ (y : RangesRead). y .used) (w .value) ∙ whole-told .bytes in
+          rw (pick-yes (wantsNext x (whole .value)) longer whole (ap (wantsNext x) (sym (w .value)) ∙ h))
+          (record {
+            value = ap (λ (l : List ExternalsRangeReaderState). readOf (q .«so_far») l (len + 1)) (sym (set-set ranges len range (q .range))) ∙ (z .value ∙ ap (λ (t : Outcome RangesRead). t .value) f);
+            out = written-more write out₀ out out′ (whole .entries) (turn one x (whole .value .len) (appended x (whole .value)) .entries) (s .used) u (w .out) (z .out ∙ ap (λ (t : Outcome RangesRead). pick write (sets out (s .used) (t .entries)) out) f);
+          })
+
+-- a first run that used no byte has written what a second one would
+pub nothing-used : (out o : List ℕ) (r : RangesRead) (s : Outcome RangesRead) → Wrote false 0 out o r s → s .value .used ≡ length (s .entries) → r .used ≡ 0 → Wrote true 0 o o r s
+nothing-used out o r s w e z = record { value = w .value; out = sym (ap (sets o 0) (none (s .entries) (sym e ∙ (ap (λ (q : RangesRead). q .used) (sym (w .value)) ∙ z)))) }
+  where
+    none : (l : List ℕ) → length l ≡ 0 → l ≡ []
+    none [] h = refl
+    none (v ∷ l) h = absurd (omega (arith, h))

@@ -3,18 +3,22 @@ use Prim.Native.Nat.{ℕ, _+_, _*_, _<_, _≤_, _^_}
 use mathlib.Core.Path.{_≡_}
 use mathlib.Core.Bool.{Bool}
 use mathlib.Core.List.{List}
-use lib.ListN.{length, getD}
+use lib.ListN.{length, getD, set}
 use Rattle.rows.specs.Rows.{pick}
 use Rattle.anchors_cache.specs.declared.AnchorsCacheTransaction.{AnchorsCacheTransaction}
 use Rattle.range_reader.specs.declared.ReadCounts.{ReadCounts}
 use Rattle.range_reader.specs.declared.ReadExternals.{ReadExternals}
 use Rattle.range_reader.specs.declared.ExternalsRangeReaderState.{ExternalsRangeReaderState}
+use Rattle.range_reader.specs.Ready.{Wrote}
 use Rattle.range_reader.specs.Calls.{readCall}
 use Rattle.range_book.proofs.Laws.{AtMost}
 use Rattle.externals_reader.specs.declared.Fixed.{Fixed}
 use Rattle.externals_reader.specs.declared.RangesRead.{RangesRead}
-use Rattle.externals_reader.specs.State.{openRangesLimit}
-use Rattle.externals_reader.specs.Rules.{modeFor}
+use Rattle.externals_reader.specs.declared.SoFar.{SoFar}
+use Rattle.externals_reader.specs.declared.TurnDone.{TurnDone}
+use Rattle.externals_reader.specs.State.{noRange, openRangesLimit}
+use Rattle.externals_reader.specs.Rules.{modeFor, OneRange, turn}
+use Rattle.externals_reader.specs.Locals.{readOf}
 
 -- no sum of two counts leaves 32 bits
 pub record Addable (a b : ReadCounts) : Type 0 where
@@ -28,10 +32,11 @@ pub record After (k room : ℕ) (r : RangesRead) : Type 0 where
   pub pops : r .pops ≤ 32 * k
   pub used : r .used ≤ room
 
--- range i's turn
-pub record Ready (x : Fixed) (i : ℕ) (r : RangesRead) (out : List ℕ) : Type 0 where
-  pub after : After 16 (x .room) r
-  pub slot : i < 16
+-- a range's turn
+pub record Ready (x : Fixed) (s : SoFar) (out : List ℕ) : Type 0 where
+  pub few : AtMost 16384 (s .counts)
+  pub pops : s .pops ≤ 512
+  pub used : s .used ≤ x .room
   pub room : length out ≡ x .room
   pub small : x .room < 2 ^ 64
 
@@ -44,13 +49,16 @@ pub record Start (x : Fixed) (r : RangesRead) (out : List ℕ) : Type 0 where
   pub small : x .room < 2 ^ 64
 
 -- what is added to what the turns before came to
-pub record TurnReady (i : ℕ) (r : RangesRead) (a : ReadExternals) : Type 0 where
-  pub slot : i < 16
-  pub counts : Addable (r .counts) (a .counts)
-  pub pops : r .pops + a .pops < 2 ^ 64
-  pub used : r .used + a .used < 2 ^ 64
+pub record TurnReady (s : SoFar) (a : ReadExternals) : Type 0 where
+  pub counts : Addable (s .counts) (a .counts)
+  pub pops : s .pops + a .pops < 2 ^ 64
+  pub used : s .used + a .used < 2 ^ 64
 
 -- one range's read, which writes its entries where the run writes
 pub record RangeWrote (write : Bool) (tables area : List ℕ) (t : AnchorsCacheTransaction) (routes : List ℕ) (x : Fixed) (range : ExternalsRangeReaderState) (before after : List ℕ) (a : ReadExternals) : Type 0 where
   pub answer : a ≡ readCall tables area t (x .shard) routes (x .limits) (x .processed) (x .params .«externals_expire_timeout») (modeFor x (range .seqno)) range before .answer
   pub out : after ≡ pick write (readCall tables area t (x .shard) routes (x .limits) (x .processed) (x .params .«externals_expire_timeout») (modeFor x (range .seqno)) range before .out) before
+
+-- a range's turn, wherever the range stands among the others
+pub record TurnWrote (write : Bool) (one : OneRange) (x : Fixed) (s : SoFar) (range : ExternalsRangeReaderState) (before after : List ℕ) (q : TurnDone) : Type 0 where
+  pub at : (ranges : List ExternalsRangeReaderState) (i len : ℕ) → getD ranges i noRange ≡ range → Wrote write (s .used) before after (readOf (q .«so_far») (set ranges i (q .range)) len) (turn one x i (readOf s ranges len))

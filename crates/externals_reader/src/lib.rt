@@ -5,6 +5,7 @@ ghost use mathlib.Core.Path.{_≡_};
 ghost use mathlib.Core.List.{[]};
 ghost use Rattle.externals_reader.specs.State.{stateNumber, settingsNumber, openRangesLimit};
 ghost use Rattle.externals_reader.specs.Calls.{withState, withMark, handedIn, newCall, resetCall, dropLastCall, setLimitsCall, partitionIdsCall, nextRangeCall, fixedOf, unchanged, readerAfter, readAllCall};
+ghost use Rattle.externals_reader.specs.Locals.{answerOf};
 use anchors_cache::AnchorsCacheTransaction;
 use ext_types::ChainTime;
 use ext_types::ExternalKey;
@@ -127,19 +128,29 @@ pub struct RangesRead {
     pub len: usize,
 }
 
+// The same without the ranges.
+pub struct SoFar {
+    pub number: u8,
+    pub pops: usize,
+    pub used: usize,
+    pub all_read: bool,
+    pub stopped: bool,
+    pub last: LastChainTime,
+    pub counts: ReadCounts,
+}
+
+// A range after its turn, and what the read has come to with it.
+pub struct TurnDone {
+    pub so_far: SoFar,
+    pub range: ExternalsRangeReaderState,
+}
+
 // Question 5 of a reader's state: 0 or 5.
 pub fn check_state(state: ExternalsReaderState) -> u8
     ensures { λ r. ⌜ r ≡ stateNumber state ⌝ }
 {
-    let len = state.len;
-    if RANGES_CAP < len {
-        return 5;
-    }
     let ranges = state.ranges;
-    if !questions::sound_ranges(ranges, len) {
-        return 5;
-    }
-    0
+    questions::ranges_number(ranges, state.len)
 }
 
 // Question 4, of the limits and of the open-ranges limit: 0 or 4.
@@ -311,9 +322,11 @@ pub fn create_next_externals_range_state(reader: ExternalsReader) -> NextRange
     let parts = state.by_partitions;
     let ranges = state.ranges;
     let time = reader.next_chain_time;
+    let at = next::last_place(state.len);
+    let last = ranges[at];
     NextRange {
         number: 0,
-        range: next::next_range(reader.block_seqno, time, parts, ranges, state.len),
+        range: next::next_range(reader.block_seqno, time, parts, last, state.len),
     }
 }
 
@@ -375,11 +388,44 @@ fn reader_after(reader: ExternalsReader, r: RangesRead) -> ExternalsReader
         by_partitions: parts,
         last_read_to_anchor_chain_time: last,
     };
-    let n = with_state(reader, state);
-    with_mark(n, r.all_read)
+    let shard = reader.for_shard_id;
+    let time = reader.next_chain_time;
+    let params = reader.msgs_exec_params;
+    let limits = reader.buffer_limits_by_partitions;
+    ExternalsReader {
+        for_shard_id: shard,
+        block_seqno: reader.block_seqno,
+        next_chain_time: time,
+        msgs_exec_params: params,
+        buffer_limits_by_partitions: limits,
+        reader_state: state,
+        all_ranges_fully_read: r.all_read,
+    }
 }
 
-// The read of all ranges. It runs twice: the first run writes nothing and decides the number, so that a refusal in a later range leaves the entries of the first unwritten.
+// The answer of a read that was not refused.
+fn answer_of(
+    tables: &[u8],
+    area: &[u8],
+    t: AnchorsCacheTransaction,
+    reader: ExternalsReader,
+    r: RangesRead,
+) -> ReadIntoBuffers
+    ensures { λ q. ⌜ q ≡ answerOf (now (tables .entry)) (now (area .entry)) t reader r ⌝ }
+{
+    let popped = anchors_cache::pop_fronts(tables, area, t, r.pops);
+    let after = popped.state;
+    let counts = r.counts;
+    ReadIntoBuffers {
+        number: 0,
+        used: r.used,
+        counts: counts,
+        reader: reader_after(reader, r),
+        state: after,
+    }
+}
+
+// The read of all ranges. It runs twice: the first run writes nothing and decides the number, so that a refusal in a later range leaves the entries of the first unwritten. Where that one used no byte there is nothing to write, and it is the answer.
 pub fn read_into_buffers(
     tables: &[u8],
     area: &[u8],
@@ -402,20 +448,15 @@ pub fn read_into_buffers(
     let imported = ranges::last_imported(tables, cache);
     let x = fixed_at_entry(reader, mode, imported, out.len());
     let state = reader.reader_state;
-    let start = turns::at_entry(state);
-    let told = turns::ranges_read(tables, area, t, routes, x, start, false, &mut *out);
+    let ranges = state.ranges;
+    let len = state.len;
+    let told = turns::ranges_read(tables, area, t, routes, x, ranges, len, false, &mut *out);
     if told.number != 0 {
         return answered(told.number, reader, t);
     }
-    let r = turns::ranges_read(tables, area, t, routes, x, start, true, &mut *out);
-    let popped = anchors_cache::pop_fronts(tables, area, t, r.pops);
-    let after = popped.state;
-    let counts = r.counts;
-    ReadIntoBuffers {
-        number: 0,
-        used: r.used,
-        counts: counts,
-        reader: reader_after(reader, r),
-        state: after,
+    if told.used == 0 {
+        return answer_of(tables, area, t, reader, told);
     }
+    let r = turns::ranges_read(tables, area, t, routes, x, ranges, len, true, &mut *out);
+    answer_of(tables, area, t, reader, r)
 }

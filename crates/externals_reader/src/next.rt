@@ -1,15 +1,18 @@
 // The next range.
-ghost use Prim.Native.Nat.{_≤_};
+ghost use Prim.Native.Nat.{_-_};
 ghost use mathlib.Core.Path.{_≡_};
-ghost use mathlib.Core.List.{map};
-ghost use lib.ListN.{replicate};
+ghost use mathlib.Core.List.{List, map};
+ghost use lib.ListN.{getD, replicate};
 ghost use Rattle.messages_buffer.specs.Fullness.{noPartition};
+ghost use Rattle.range_reader.specs.declared.ExternalsRangeReaderState.{ExternalsRangeReaderState};
 ghost use Rattle.range_reader.specs.Rules.{noKey};
+ghost use Rattle.externals_reader.specs.State.{noRange};
 ghost use Rattle.externals_reader.specs.Rules.{lastOr, nextPartition, rangeFrom, nextRange, wantsNext};
+ghost use Rattle.externals_reader.specs.Locals.{readOf};
 use crate::ExternalsPartitionReaderState;
 use crate::Fixed;
 use crate::GetNextMessageGroupMode;
-use crate::RangesRead;
+use crate::SoFar;
 use ext_types::ChainTime;
 use ext_types::ExternalKey;
 use messages_buffer::ExternalsPartitionRangeReaderState;
@@ -53,9 +56,18 @@ fn next_partitions(
     r
 }
 
-fn last_to(ranges: [ExternalsRangeReaderState; 16], len: usize) -> ExternalKey
-    requires { ⌜ len ≤ 16 ⌝ }
-    ensures { λ r. ⌜ r ≡ lastOr noKey (λ q. q .to) len ranges ⌝ }
+// Where the last of so many ranges stands; 0 where there is none.
+pub(crate) fn last_place(len: usize) -> usize
+    ensures { λ r. ⌜ r ≡ len - 1 ⌝ }
+{
+    if len == 0 {
+        return 0;
+    }
+    len - 1
+}
+
+fn last_to(last: ExternalsRangeReaderState, len: usize) -> ExternalKey
+    ensures { λ r. ⌜ ((ranges : List ExternalsRangeReaderState) → getD ranges (len - 1) noRange ≡ last → r ≡ lastOr noKey (λ q. q .to) len ranges) ⌝ }
 {
     if len == 0 {
         return ExternalKey {
@@ -63,8 +75,6 @@ fn last_to(ranges: [ExternalsRangeReaderState; 16], len: usize) -> ExternalKey
             msgs_offset: 0,
         };
     }
-    let i = len - 1;
-    let last = ranges[i];
     last.to
 }
 
@@ -98,42 +108,51 @@ pub(crate) fn no_range() -> ExternalsRangeReaderState
     range_from(0, from, ChainTime(0), parts)
 }
 
+// The range behind the last one, which is not looked at where there is none.
 pub(crate) fn next_range(
     seqno: u32,
     time: ChainTime,
     parts: [ExternalsPartitionReaderState; 8],
-    ranges: [ExternalsRangeReaderState; 16],
+    last: ExternalsRangeReaderState,
     len: usize,
 ) -> ExternalsRangeReaderState
-    requires { ⌜ len ≤ 16 ⌝ }
-    ensures { λ r. ⌜ r ≡ nextRange seqno time parts ranges len ⌝ }
+    ensures { λ r. ⌜ ((ranges : List ExternalsRangeReaderState) → getD ranges (len - 1) noRange ≡ last → r ≡ nextRange seqno time parts ranges len) ⌝ }
 {
-    let from = last_to(ranges, len);
+    let from = last_to(last, len);
     let fresh = next_partitions(parts);
     range_from(seqno, from, time, fresh)
 }
 
-fn last_seqno(ranges: [ExternalsRangeReaderState; 16], len: usize) -> u32
-    requires { ⌜ len ≤ 16 ⌝ }
-    ensures { λ r. ⌜ r ≡ lastOr 0 (λ q. q .seqno) len ranges ⌝ }
+// The one that a read appends.
+pub(crate) fn appended_range(
+    x: Fixed,
+    last: ExternalsRangeReaderState,
+    len: usize,
+) -> ExternalsRangeReaderState
+    ensures { λ r. ⌜ ((ranges : List ExternalsRangeReaderState) → getD ranges (len - 1) noRange ≡ last → r ≡ nextRange (x .«block_seqno») (x .«next_chain_time») (x .«by_partitions») ranges len) ⌝ }
+{
+    let time = x.next_chain_time;
+    let parts = x.by_partitions;
+    next_range(x.block_seqno, time, parts, last, len)
+}
+
+fn last_seqno(last: ExternalsRangeReaderState, len: usize) -> u32
+    ensures { λ r. ⌜ ((ranges : List ExternalsRangeReaderState) → getD ranges (len - 1) noRange ≡ last → r ≡ lastOr 0 (λ q. q .seqno) len ranges) ⌝ }
 {
     if len == 0 {
         return 0;
     }
-    let i = len - 1;
-    let last = ranges[i];
     last.seqno
 }
 
 // Whether a range is appended: all are fully read, and nothing forbids it.
-pub(crate) fn wants_next(x: Fixed, r: RangesRead) -> bool
-    requires { ⌜ r .len ≤ 16 ⌝ }
-    ensures { λ q. ⌜ q ≡ wantsNext x r ⌝ }
+pub(crate) fn wants_next(x: Fixed, s: SoFar, last: ExternalsRangeReaderState, len: usize) -> bool
+    ensures { λ q. ⌜ ((ranges : List ExternalsRangeReaderState) → getD ranges (len - 1) noRange ≡ last → q ≡ wantsNext x (readOf s ranges len)) ⌝ }
 {
-    if r.number != 0 {
+    if s.number != 0 {
         return false;
     }
-    if !r.all_read {
+    if !s.all_read {
         return false;
     }
     let mode = x.mode;
@@ -148,9 +167,8 @@ pub(crate) fn wants_next(x: Fixed, r: RangesRead) -> bool
         return false;
     }
     let limit = crate::open_ranges_limit(params);
-    if limit <= r.len {
+    if limit <= len {
         return false;
     }
-    let ranges = r.ranges;
-    last_seqno(ranges, r.len) < x.block_seqno
+    last_seqno(last, len) < x.block_seqno
 }

@@ -3,7 +3,8 @@ ghost use Prim.Native.Nat.{_≤_};
 ghost use mathlib.Core.Path.{_≡_};
 ghost use lib.ListN.{take};
 ghost use Rattle.externals_reader.specs.State.{rangeSound, soundFrom};
-ghost use Rattle.externals_reader.specs.Calls.{settledNumber, readerNumber, askedOfRead};
+ghost use Rattle.externals_reader.specs.Calls.{readerNumber, askedOfRead};
+ghost use Rattle.externals_reader.specs.Locals.{rangesNumber, piecesNumber};
 use crate::ExternalsReader;
 use anchors_cache::AnchorsCacheTransaction;
 use range_reader::ExternalsRangeReaderState;
@@ -42,17 +43,33 @@ pub(crate) fn sound_ranges(ranges: [ExternalsRangeReaderState; 16], len: usize) 
     true
 }
 
-// Questions 4 and 5.
-fn asked_of_settings(reader: ExternalsReader) -> u8
-    ensures { λ r. ⌜ r ≡ settledNumber reader ⌝ }
+// Question 5 of the ranges: 0 or 5.
+pub(crate) fn ranges_number(ranges: [ExternalsRangeReaderState; 16], len: usize) -> u8
+    ensures { λ r. ⌜ r ≡ rangesNumber ranges len ⌝ }
 {
-    let limits = reader.buffer_limits_by_partitions;
-    let params = reader.msgs_exec_params;
-    let of_settings = crate::check_settings(limits, params.open_ranges_limit);
+    if crate::RANGES_CAP < len {
+        return 5;
+    }
+    if !sound_ranges(ranges, len) {
+        return 5;
+    }
+    0
+}
+
+// Questions 4 and 5.
+fn asked_of_settings(
+    limits: [u16; 8],
+    most: u8,
+    ranges: [ExternalsRangeReaderState; 16],
+    len: usize,
+) -> u8
+    ensures { λ r. ⌜ r ≡ piecesNumber limits most ranges len ⌝ }
+{
+    let of_settings = crate::check_settings(limits, most);
     if of_settings != 0 {
         return of_settings;
     }
-    crate::check_state(reader.reader_state)
+    ranges_number(ranges, len)
 }
 
 // Questions 2, 4 and 5.
@@ -64,7 +81,11 @@ pub(crate) fn asked_of_reader(reader: ExternalsReader) -> u8
     if of_shard != 0 {
         return of_shard;
     }
-    asked_of_settings(reader)
+    let limits = reader.buffer_limits_by_partitions;
+    let params = reader.msgs_exec_params;
+    let state = reader.reader_state;
+    let ranges = state.ranges;
+    asked_of_settings(limits, params.open_ranges_limit, ranges, state.len)
 }
 
 // Questions 1, 2, 3, 4, 5 and 9 of a read.
@@ -89,7 +110,11 @@ pub(crate) fn asked_of_read(
     if of_routes != 0 {
         return of_routes;
     }
-    let of_settings = asked_of_settings(reader);
+    let limits = reader.buffer_limits_by_partitions;
+    let params = reader.msgs_exec_params;
+    let state = reader.reader_state;
+    let ranges = state.ranges;
+    let of_settings = asked_of_settings(limits, params.open_ranges_limit, ranges, state.len);
     if of_settings != 0 {
         return of_settings;
     }

@@ -3,18 +3,19 @@ ghost use Prim.Native.Nat.{ℕ, _+_, _<_, _^_};
 ghost use mathlib.Core.Path.{_≡_};
 ghost use mathlib.Core.Bool.{not, _&&_};
 ghost use lib.ListN.{getD};
-ghost use Rattle.range_reader.specs.Rules.{silent};
 ghost use Rattle.range_reader.specs.Ready.{Wrote};
 ghost use Rattle.range_reader.specs.Calls.{noCounts};
-ghost use Rattle.externals_reader.specs.Rules.{skipOffsetOf, reached, beforeSkipOffsets, waits, isSkipped, modeFor, settled, sums, countsAdded, afterTurn, turn, isOver, turns, appended, rangesRead, later};
-ghost use Rattle.externals_reader.specs.Calls.{atEntry, told, windowRead};
-ghost use Rattle.externals_reader.specs.Ready.{Addable, TurnReady, RangeWrote, Ready, Start};
+ghost use Rattle.externals_reader.specs.Rules.{skipOffsetOf, reached, beforeSkipOffsets, waits, isSkipped, modeFor, settled, sums, countsAdded, rangesRead, later};
+ghost use Rattle.externals_reader.specs.Calls.{told, windowRead};
+ghost use Rattle.externals_reader.specs.Locals.{nothingRead, readOf, turnDone, turnsOver};
+ghost use Rattle.externals_reader.specs.Ready.{Addable, TurnReady, RangeWrote, Ready, Start, TurnWrote};
 use crate::ExternalsPartitionReaderState;
-use crate::ExternalsReaderState;
 use crate::Fixed;
 use crate::GetNextMessageGroupMode;
 use crate::Imported;
 use crate::RangesRead;
+use crate::SoFar;
+use crate::TurnDone;
 use crate::next;
 use anchors_cache::AnchorsCacheTransaction;
 use messages_buffer::ExternalsPartitionRangeReaderState;
@@ -35,13 +36,12 @@ pub(crate) fn no_counts() -> ReadCounts
     }
 }
 
-pub(crate) fn at_entry(state: ExternalsReaderState) -> RangesRead
-    ensures { λ r. ⌜ r ≡ atEntry state ⌝ }
+fn nothing_read() -> SoFar
+    ensures { λ r. ⌜ r ≡ nothingRead ⌝ }
 {
-    let ranges = state.ranges;
     let counts = no_counts();
     let last = LastChainTime::Nothing;
-    RangesRead {
+    SoFar {
         number: 0,
         pops: 0,
         used: 0,
@@ -49,8 +49,6 @@ pub(crate) fn at_entry(state: ExternalsReaderState) -> RangesRead
         stopped: false,
         last: last,
         counts: counts,
-        ranges: ranges,
-        len: state.len,
     }
 }
 
@@ -235,31 +233,34 @@ fn range_turn(
     )
 }
 
-// What a range's read makes of the whole.
-fn after_turn(x: Fixed, i: usize, r: RangesRead, a: ReadExternals) -> RangesRead
-    requires { ⌜ TurnReady i r a ⌝ }
-    ensures { λ q. ⌜ q ≡ afterTurn x i r (told a) ⌝ }
+// What a range's read makes of what the turns before came to.
+fn after_turn(x: Fixed, s: SoFar, range: ExternalsRangeReaderState, a: ReadExternals) -> TurnDone
+    requires { ⌜ TurnReady s a ⌝ }
+    ensures { λ q. ⌜ q ≡ turnDone x s range (told a) ⌝ }
 {
-    let mut q = r;
     if a.number != 0 {
+        let mut q = s;
         q.number = a.number;
-        return q;
+        return TurnDone {
+            so_far: q,
+            range: range,
+        };
     }
-    let range = a.range;
+    let read = a.range;
     let last = a.last_chain_time;
-    let counts = added(r.counts, a.counts);
-    let mut ranges = r.ranges;
-    ranges[i] = settled(x, range);
-    RangesRead {
+    let counts = added(s.counts, a.counts);
+    let q = SoFar {
         number: 0,
-        pops: r.pops + a.pops,
-        used: r.used + a.used,
-        all_read: all_read(r.all_read, range.fully_read),
-        stopped: stops(a.full, range.fully_read),
+        pops: s.pops + a.pops,
+        used: s.used + a.used,
+        all_read: all_read(s.all_read, read.fully_read),
+        stopped: stops(a.full, read.fully_read),
         last: last,
         counts: counts,
-        ranges: ranges,
-        len: r.len,
+    };
+    TurnDone {
+        so_far: q,
+        range: settled(x, read),
     }
 }
 
@@ -282,107 +283,112 @@ fn stops(full: bool, fully_read: bool) -> bool
     full
 }
 
-// The turn of range i.
+// The turn of a range, wherever it stands among the others.
 fn turn(
     tables: &[u8],
     area: &[u8],
     t: AnchorsCacheTransaction,
     routes: &[u8],
     x: Fixed,
-    i: usize,
-    r: RangesRead,
+    s: SoFar,
+    range: ExternalsRangeReaderState,
     write: bool,
     out: &mut [u8],
-) -> RangesRead
-    requires { ⌜ Ready x i r (now out) ⌝ }
-    ensures { λ q. ⌜ Wrote write (r .used) (now (out .entry)) (now (out .exit)) q (turn (windowRead (now (tables .entry)) (now (area .entry)) t (now (routes .entry)) x) x i r) ⌝ }
+) -> TurnDone
+    requires { ⌜ Ready x s (now out) ⌝ }
+    ensures { λ q. ⌜ TurnWrote write (windowRead (now (tables .entry)) (now (area .entry)) t (now (routes .entry)) x) x s range (now (out .entry)) (now (out .exit)) q ⌝ }
 {
-    let ranges = r.ranges;
-    let range = ranges[i];
     if range.fully_read {
-        return r;
+        return TurnDone {
+            so_far: s,
+            range: range,
+        };
     }
     if is_skipped(x, range) {
-        let mut q = r;
+        let mut q = s;
         q.all_read = false;
-        return q;
+        return TurnDone {
+            so_far: q,
+            range: range,
+        };
     }
-    let used = r.used;
-    let before = anchors_cache::pop_fronts(tables, area, t, r.pops);
+    let used = s.used;
+    let before = anchors_cache::pop_fronts(tables, area, t, s.pops);
     let now = before.state;
     let a = range_turn(tables, area, now, routes, x, range, write, &mut out[used..]);
-    after_turn(x, i, r, a)
+    after_turn(x, s, range, a)
 }
 
-fn turns(
-    tables: &[u8],
-    area: &[u8],
-    t: AnchorsCacheTransaction,
-    routes: &[u8],
-    x: Fixed,
-    start: RangesRead,
-    write: bool,
-    out: &mut [u8],
-) -> RangesRead
-    requires { ⌜ Start x start (now out) ⌝ }
-    ensures { λ q. ⌜ Wrote write 0 (now (out .entry)) (now (out .exit)) q (turns (windowRead (now (tables .entry)) (now (area .entry)) t (now (routes .entry)) x) x (start .len) 0 (silent start)) ⌝ }
+// No range is left, or the turns are over.
+fn turns_over(s: SoFar, left: usize) -> bool
+    ensures { λ q. ⌜ q ≡ turnsOver s left ⌝ }
 {
-    let mut r = start;
-    let mut i = 0;
-    let mut left = start.len;
-    while 0 < left {
-        if is_over(r) {
-            return r;
-        }
-        r = turn(tables, area, t, routes, x, i, r, write, &mut *out);
-        i += 1;
-        left -= 1;
-    }
-    r
-}
-
-fn is_over(r: RangesRead) -> bool
-    ensures { λ q. ⌜ q ≡ isOver r ⌝ }
-{
-    if r.number != 0 {
+    if left == 0 {
         return true;
     }
-    r.stopped
+    if s.number != 0 {
+        return true;
+    }
+    s.stopped
 }
 
-fn appended(x: Fixed, r: RangesRead) -> RangesRead
-    requires { ⌜ r .len < 16 ⌝ }
-    ensures { λ q. ⌜ q ≡ appended x r ⌝ }
+fn ranges_so_far(s: SoFar, ranges: [ExternalsRangeReaderState; 16], len: usize) -> RangesRead
+    ensures { λ r. ⌜ r ≡ readOf s ranges len ⌝ }
 {
-    let parts = x.by_partitions;
-    let time = x.next_chain_time;
-    let mut ranges = r.ranges;
-    let i = r.len;
-    ranges[i] = next::next_range(x.block_seqno, time, parts, ranges, r.len);
-    let mut q = r;
-    q.ranges = ranges;
-    q.len = i + 1;
-    q
+    let last = s.last;
+    let counts = s.counts;
+    RangesRead {
+        number: s.number,
+        pops: s.pops,
+        used: s.used,
+        all_read: s.all_read,
+        stopped: s.stopped,
+        last: last,
+        counts: counts,
+        ranges: ranges,
+        len: len,
+    }
 }
 
-// Every range in turn; where all are fully read, the next one, if one is wanted.
+// Every range in turn; where all are fully read, the next one, if one is wanted. The ranges are a local that is changed in place.
 pub(crate) fn ranges_read(
     tables: &[u8],
     area: &[u8],
     t: AnchorsCacheTransaction,
     routes: &[u8],
     x: Fixed,
-    start: RangesRead,
+    start: [ExternalsRangeReaderState; 16],
+    len: usize,
     write: bool,
     out: &mut [u8],
 ) -> RangesRead
-    requires { ⌜ Start x start (now out) ⌝ }
-    ensures { λ q. ⌜ Wrote write 0 (now (out .entry)) (now (out .exit)) q (rangesRead (windowRead (now (tables .entry)) (now (area .entry)) t (now (routes .entry)) x) x start) ⌝ }
+    requires { ⌜ Start x (readOf nothingRead start len) (now out) ⌝ }
+    ensures { λ q. ⌜ Wrote write 0 (now (out .entry)) (now (out .exit)) q (rangesRead (windowRead (now (tables .entry)) (now (area .entry)) t (now (routes .entry)) x) x (readOf nothingRead start len)) ⌝ }
 {
-    let r = turns(tables, area, t, routes, x, start, write, &mut *out);
-    if !next::wants_next(x, r) {
-        return r;
+    let mut ranges = start;
+    let mut s = nothing_read();
+    let mut i = 0;
+    let mut left = len;
+    loop {
+        if turns_over(s, left) {
+            break;
+        }
+        let range = ranges[i];
+        let done = turn(tables, area, t, routes, x, s, range, write, &mut *out);
+        let next = done.range;
+        ranges[i] = next;
+        s = done.so_far;
+        i += 1;
+        left -= 1;
     }
-    let more = appended(x, r);
-    turn(tables, area, t, routes, x, r.len, more, write, &mut *out)
+    let at = next::last_place(len);
+    let last = ranges[at];
+    if !next::wants_next(x, s, last, len) {
+        return ranges_so_far(s, ranges, len);
+    }
+    let fresh = next::appended_range(x, last, len);
+    let more = turn(tables, area, t, routes, x, s, fresh, write, &mut *out);
+    let read = more.range;
+    ranges[len] = read;
+    ranges_so_far(more.so_far, ranges, len + 1)
 }

@@ -1,4 +1,4 @@
-use Rattle.externals_reader.proofs.CallLaws.{call-refused, call-idle, call-history, call-start, call-stopped, call-done, call-again}
+use Rattle.externals_reader.proofs.CallLaws.{call-refused, call-idle, call-history, call-start, call-stopped, call-done, call-silent, call-again}
 use Rattle.externals_reader.proofs.TurnLaws.{wrote-length}
 use Rattle.externals_reader.specs.declared.Imported.{Imported}
 use Rattle.externals_reader.specs.Calls.{fixedOf}
@@ -37,14 +37,11 @@ last-imported-requires c κs =
 fixed-at-entry-requires : tie.Need-fixed-at-entry-requires
 fixed-at-entry-requires c κs = search needs
 
-at-entry-requires : tie.Need-at-entry-requires
-at-entry-requires c κs = search needs
-
 ranges-read-requires : tie.Need-ranges-read-requires
 ranges-read-requires c κs =
     let c-args = c .before .before .before .before .before .before .before .before .before .before .before .before .before .args in
     let c-fixed-at-entry = c .before .before .before .fixed-at-entry in
-    call-start (now (c-args .tables)) (now (c-args .area)) (c-args .t) (now (c-args .routes)) (c-args .reader) (c-args .mode) (now (c-args .out)) _ (c .before .before .before .before .before .before .before .before .asked-of-read .ensures) (c .before .before .before .before .before .before .before .if1 .left) (c .before .before .before .before .before .before .if2 .left) _ (c-fixed-at-entry .ensures .0 ∙ ap (λ (e : Imported). fixedOf (c-args .reader) (c-args .mode) e (length (now (c-args .out)))) (c .before .before .before .before .last-imported .ensures)) _ (c .before .at-entry .ensures) (c-fixed-at-entry .ensures .1)
+    call-start (now (c-args .tables)) (now (c-args .area)) (c-args .t) (now (c-args .routes)) (c-args .reader) (c-args .mode) (now (c-args .out)) _ (c .before .before .before .before .before .before .before .before .asked-of-read .ensures) (c .before .before .before .before .before .before .before .if1 .left) (c .before .before .before .before .before .before .if2 .left) _ (c-fixed-at-entry .ensures .0 ∙ ap (λ (e : Imported). fixedOf (c-args .reader) (c-args .mode) e (length (now (c-args .out)))) (c .before .before .before .before .last-imported .ensures)) (c-fixed-at-entry .ensures .1)
 
 answered-requires-3 : tie.Need-answered-requires-3
 answered-requires-3 c κs = search needs
@@ -55,27 +52,36 @@ same-length c = search needs
 returns-3 : tie.Need-returns-3
 returns-3 c =
     let c-args = c .before .before .before .before .before .before .before .before .before .before .before .before .before .before .before .before .before .before .before .args in
-    call-stopped (now (c-args .tables)) (now (c-args .area)) (c-args .t) (now (c-args .routes)) (c-args .reader) (c-args .mode) (now (c-args .out)) _ (c .before .before .before .before .before .before .before .before .before .before .before .before .before .before .asked-of-read .ensures) (c .before .before .before .before .before .before .before .before .before .before .before .before .before .if1 .left) (c .before .before .before .before .before .before .before .before .before .before .before .before .if2 .left) _ (c .before .before .before .before .before .before .before .before .before .fixed-at-entry .ensures .0 ∙ ap (λ (e : Imported). fixedOf (c-args .reader) (c-args .mode) e (length (now (c-args .out)))) (c .before .before .before .before .before .before .before .before .before .before .last-imported .ensures)) _ (c .before .before .before .before .before .before .before .at-entry .ensures) _ _ (c .before .before .before .before .before .ranges-read .ensures) (c .before .if3 .taken) _ (c .answered3 .ensures)
+    call-stopped (now (c-args .tables)) (now (c-args .area)) (c-args .t) (now (c-args .routes)) (c-args .reader) (c-args .mode) (now (c-args .out)) _ (c .before .before .before .before .before .before .before .before .before .before .before .before .before .before .asked-of-read .ensures) (c .before .before .before .before .before .before .before .before .before .before .before .before .before .if1 .left) (c .before .before .before .before .before .before .before .before .before .before .before .before .if2 .left) _ (c .before .before .before .before .before .before .before .before .before .fixed-at-entry .ensures .0 ∙ ap (λ (e : Imported). fixedOf (c-args .reader) (c-args .mode) e (length (now (c-args .out)))) (c .before .before .before .before .before .before .before .before .before .before .last-imported .ensures)) _ _ (c .before .before .before .before .before .ranges-read .ensures) (c .before .if3 .taken) _ (c .answered3 .ensures)
 
-ranges-read-requires-2 : tie.Need-ranges-read-requires-2
-ranges-read-requires-2 c κs =
-    let c-args = c .before .before .before .before .before .before .before .before .before .before .before .before .before .before .before .before .before .before .before .args in
-    let c-fixed-at-entry = c .before .before .before .before .before .before .before .before .before .fixed-at-entry in
-    call-again (now (c-args .tables)) (now (c-args .area)) (c-args .t) (now (c-args .routes)) (c-args .reader) (c-args .mode) (now (c-args .out)) _ (c .before .before .before .before .before .before .before .before .before .before .before .before .before .before .asked-of-read .ensures) (c .before .before .before .before .before .before .before .before .before .before .before .before .before .if1 .left) (c .before .before .before .before .before .before .before .before .before .before .before .before .if2 .left) _ (c-fixed-at-entry .ensures .0 ∙ ap (λ (e : Imported). fixedOf (c-args .reader) (c-args .mode) e (length (now (c-args .out)))) (c .before .before .before .before .before .before .before .before .before .before .last-imported .ensures)) _ (c .before .before .before .before .before .before .before .at-entry .ensures) _ _ (c .before .before .before .before .before .ranges-read .ensures) (c-fixed-at-entry .ensures .1)
-
-pop-fronts-requires : tie.Need-pop-fronts-requires
-pop-fronts-requires c κs = search needs
-
-reader-after-requires : tie.Need-reader-after-requires
-reader-after-requires c κs = search needs
+answer-of-requires : tie.Need-answer-of-requires
+answer-of-requires c κs = search needs
 
 same-length-2 : tie.Need-same-length-2
-same-length-2 c = wrote-length _ _ _ _ _ _ (c .before .before .before .before .before .before .ranges-read2 .ensures) ∙ wrote-length _ _ _ _ _ _ (c .before .before .before .before .before .before .before .before .before .before .before .before .ranges-read .ensures)
+same-length-2 c = wrote-length _ _ _ _ _ _ (c .before .before .before .before .before .before .before .ranges-read .ensures)
 
 returns-4 : tie.Need-returns-4
 returns-4 c =
-    let c-args = c .before .before .before .before .before .before .before .before .before .before .before .before .before .before .before .before .before .before .before .before .before .before .before .before .before .before .args in
-    call-done (now (c-args .tables)) (now (c-args .area)) (c-args .t) (now (c-args .routes)) (c-args .reader) (c-args .mode) (now (c-args .out)) _ (c .before .before .before .before .before .before .before .before .before .before .before .before .before .before .before .before .before .before .before .before .before .asked-of-read .ensures) (c .before .before .before .before .before .before .before .before .before .before .before .before .before .before .before .before .before .before .before .before .if1 .left) (c .before .before .before .before .before .before .before .before .before .before .before .before .before .before .before .before .before .before .before .if2 .left) _ (c .before .before .before .before .before .before .before .before .before .before .before .before .before .before .before .before .fixed-at-entry .ensures .0 ∙ ap (λ (e : Imported). fixedOf (c-args .reader) (c-args .mode) e (length (now (c-args .out)))) (c .before .before .before .before .before .before .before .before .before .before .before .before .before .before .before .before .before .last-imported .ensures)) _ (c .before .before .before .before .before .before .before .before .before .before .before .before .before .before .at-entry .ensures) _ _ (c .before .before .before .before .before .before .before .before .before .before .before .before .ranges-read .ensures) (c .before .before .before .before .before .before .before .before .if3 .left) _ _ (c .before .before .before .before .before .before .ranges-read2 .ensures) _ (c .before .before .before .pop-fronts .ensures) _ (c .reader-after .ensures)
+    let c-args = c .before .before .before .before .before .before .before .before .before .before .before .before .before .before .before .before .before .before .before .before .before .args in
+    let c-fixed-at-entry = c .before .before .before .before .before .before .before .before .before .before .before .fixed-at-entry in
+    call-silent (now (c-args .tables)) (now (c-args .area)) (c-args .t) (now (c-args .routes)) (c-args .reader) (c-args .mode) (now (c-args .out)) _ (c .before .before .before .before .before .before .before .before .before .before .before .before .before .before .before .before .asked-of-read .ensures) (c .before .before .before .before .before .before .before .before .before .before .before .before .before .before .before .if1 .left) (c .before .before .before .before .before .before .before .before .before .before .before .before .before .before .if2 .left) _ (c-fixed-at-entry .ensures .0 ∙ ap (λ (e : Imported). fixedOf (c-args .reader) (c-args .mode) e (length (now (c-args .out)))) (c .before .before .before .before .before .before .before .before .before .before .before .before .last-imported .ensures)) _ _ (c .before .before .before .before .before .before .before .ranges-read .ensures) (c-fixed-at-entry .ensures .1) (c .before .before .before .if3 .left) (c .before .if4 .taken) _ (c .answer-of .ensures)
+
+ranges-read-requires-2 : tie.Need-ranges-read-requires-2
+ranges-read-requires-2 c κs =
+    let c-args = c .before .before .before .before .before .before .before .before .before .before .before .before .before .before .before .before .before .before .before .before .before .args in
+    let c-fixed-at-entry = c .before .before .before .before .before .before .before .before .before .before .before .fixed-at-entry in
+    call-again (now (c-args .tables)) (now (c-args .area)) (c-args .t) (now (c-args .routes)) (c-args .reader) (c-args .mode) (now (c-args .out)) _ (c .before .before .before .before .before .before .before .before .before .before .before .before .before .before .before .before .asked-of-read .ensures) (c .before .before .before .before .before .before .before .before .before .before .before .before .before .before .before .if1 .left) (c .before .before .before .before .before .before .before .before .before .before .before .before .before .before .if2 .left) _ (c-fixed-at-entry .ensures .0 ∙ ap (λ (e : Imported). fixedOf (c-args .reader) (c-args .mode) e (length (now (c-args .out)))) (c .before .before .before .before .before .before .before .before .before .before .before .before .last-imported .ensures)) _ _ (c .before .before .before .before .before .before .before .ranges-read .ensures) (c-fixed-at-entry .ensures .1)
+
+answer-of-requires-2 : tie.Need-answer-of-requires-2
+answer-of-requires-2 c κs = search needs
+
+same-length-3 : tie.Need-same-length-3
+same-length-3 c = wrote-length _ _ _ _ _ _ (c .before .before .before .ranges-read2 .ensures) ∙ wrote-length _ _ _ _ _ _ (c .before .before .before .before .before .before .before .before .before .before .before .ranges-read .ensures)
+
+returns-5 : tie.Need-returns-5
+returns-5 c =
+    let c-args = c .before .before .before .before .before .before .before .before .before .before .before .before .before .before .before .before .before .before .before .before .before .before .before .before .before .args in
+    call-done (now (c-args .tables)) (now (c-args .area)) (c-args .t) (now (c-args .routes)) (c-args .reader) (c-args .mode) (now (c-args .out)) _ (c .before .before .before .before .before .before .before .before .before .before .before .before .before .before .before .before .before .before .before .before .asked-of-read .ensures) (c .before .before .before .before .before .before .before .before .before .before .before .before .before .before .before .before .before .before .before .if1 .left) (c .before .before .before .before .before .before .before .before .before .before .before .before .before .before .before .before .before .before .if2 .left) _ (c .before .before .before .before .before .before .before .before .before .before .before .before .before .before .before .fixed-at-entry .ensures .0 ∙ ap (λ (e : Imported). fixedOf (c-args .reader) (c-args .mode) e (length (now (c-args .out)))) (c .before .before .before .before .before .before .before .before .before .before .before .before .before .before .before .before .last-imported .ensures)) _ _ (c .before .before .before .before .before .before .before .before .before .before .before .ranges-read .ensures) (c .before .before .before .before .before .before .before .if3 .left) _ _ (c .before .before .before .ranges-read2 .ensures) _ (c .answer-of2 .ensures)
 
 pub read-into-buffers-spec : {M : Type 1} → statement M
 read-into-buffers-spec =
@@ -88,13 +94,14 @@ read-into-buffers-spec =
     returns-2
     last-imported-requires
     fixed-at-entry-requires
-    at-entry-requires
     ranges-read-requires
     answered-requires-3
     same-length
     returns-3
-    ranges-read-requires-2
-    pop-fronts-requires
-    reader-after-requires
+    answer-of-requires
     same-length-2
-    returns-4)
+    returns-4
+    ranges-read-requires-2
+    answer-of-requires-2
+    same-length-3
+    returns-5)

@@ -1,28 +1,16 @@
 use Rattle.externals_reader.proofs.Laws.{last-none, last-some}
 use Rattle.range_reader.specs.Rules.{noKey}
 use Prim.Native.Nat.{_-_}
-use borrow.Author.Needs.{needs}
 use Rattle.externals_reader.proofs.next.last_to.Statement.{statement}
 use Rattle.externals_reader.proofs.next.last_to.Tie as tie
 
 returns : tie.Need-returns
-returns c =
-    let c-args = c .before .args in
-    last-none noKey (λ q. q .to) (c-args .t1) (c-args .len) (c .if1 .taken)
-
-sub-i : tie.Need-sub-i
-sub-i c = search needs
-
-mul-last : tie.Need-mul-last
-mul-last c = search needs
-
-array-copy-out-last : tie.Need-array-copy-out-last
-array-copy-out-last c = search needs
+returns c = λ ranges e. last-none noKey (λ q. q .to) ranges (c .before .args .len) (c .if1 .taken)
 
 returns-2 : tie.Need-returns-2
 returns-2 c =
-    let c-args = c .before .before .before .args in
-    last-some noKey (λ q. q .to) (c-args .t1) (c-args .len) (c .before .before .if1 .left)
+    let c-args = c .before .before .args in
+    λ ranges e. last-some noKey (λ q. q .to) ranges (c-args .len) (c .before .if1 .left) (c-args .last) e
 
 pub last-to-spec : {M : Type 1} → statement M
-last-to-spec = tie.close (tie.spec returns sub-i mul-last array-copy-out-last returns-2)
+last-to-spec = tie.close (tie.spec returns returns-2)

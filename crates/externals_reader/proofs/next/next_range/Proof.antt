@@ -16,7 +16,7 @@ range-from-requires c κs = search needs
 
 returns : tie.Need-returns
 unfolding nextRange
-returns c = c .range-from .ensures ∙ rw (c .before .before .last-to .ensures, c .before .next-partitions .ensures)
+returns c = λ ranges e. c .range-from .ensures ∙ rw (c .before .before .last-to .ensures ranges e, c .before .next-partitions .ensures)
 
 pub next-range-spec : {M : Type 1} → statement M
 next-range-spec =

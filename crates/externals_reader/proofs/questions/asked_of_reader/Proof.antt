@@ -1,5 +1,6 @@
-use Rattle.externals_reader.specs.Calls.{readerNumber}
 use Rattle.range_reader.proofs.Numbers.{first-no, first-yes, first-alone}
+use Rattle.externals_reader.specs.Calls.{readerNumber}
+use Rattle.externals_reader.proofs.Sound.{by-pieces}
 use Prim.Native.Nat.{_-_}
 use mathlib.Core.Path.{sym, _∙_}
 use borrow.Author.Needs.{needs}
@@ -18,7 +19,7 @@ asked-of-settings-requires c κs = search needs
 
 returns-2 : tie.Need-returns-2
 unfolding readerNumber
-returns-2 c = c .asked-of-settings .ensures ∙ sym (first-yes _ _ (sym (c .before .before .check-shard .ensures) ∙ c .before .if1 .left) ∙ first-alone _)
+returns-2 c = by-pieces (c .before .before .before .before .before .before .before .before .args .reader) _ (c .asked-of-settings .ensures) ∙ sym (first-yes _ _ (sym (c .before .before .before .before .before .before .check-shard .ensures) ∙ c .before .before .before .before .before .if1 .left) ∙ first-alone _)
 
 pub asked-of-reader-spec : {M : Type 1} → statement M
 asked-of-reader-spec =

@@ -1,29 +1,20 @@
-use Rattle.externals_reader.proofs.TurnLaws.{after-refused, after-done}
+use Rattle.externals_reader.proofs.TurnLaws.{done-refused, done-read}
 use Prim.Native.Nat.{_-_}
 use borrow.Author.Needs.{needs}
 use Rattle.externals_reader.proofs.turns.after_turn.Statement.{statement}
 use Rattle.externals_reader.proofs.turns.after_turn.Tie as tie
 
 returns : tie.Need-returns
-returns c = after-refused _ _ _ _ (c .if1 .taken)
+returns c = done-refused _ _ _ _ (c .if1 .taken)
 
 added-requires : tie.Need-added-requires
 added-requires c κs = search needs
 
-settled-requires : tie.Need-settled-requires
-settled-requires c κs = search needs
-
-mul-ranges : tie.Need-mul-ranges
-mul-ranges c = search needs
-
-array-set-from-ranges : tie.Need-array-set-from-ranges
-array-set-from-ranges c = search needs
+add-t11 : tie.Need-add-t11
+add-t11 c = search needs
 
 add-t12 : tie.Need-add-t12
 add-t12 c = search needs
-
-add-t15 : tie.Need-add-t15
-add-t15 c = search needs
 
 all-read-requires : tie.Need-all-read-requires
 all-read-requires c κs = search needs
@@ -31,8 +22,11 @@ all-read-requires c κs = search needs
 stops-requires : tie.Need-stops-requires
 stops-requires c κs = search needs
 
+settled-requires : tie.Need-settled-requires
+settled-requires c κs = search needs
+
 returns-2 : tie.Need-returns-2
-returns-2 c = after-done _ _ _ _ _ _ _ _ (c .before .all-read .ensures) (c .stops .ensures) (c .before .before .before .before .before .before .before .before .added .ensures) (c .before .before .before .before .before .before .settled .ensures) (c .before .before .before .before .before .before .before .before .before .before .if1 .left)
+returns-2 c = done-read _ _ _ _ _ _ _ _ (c .before .before .all-read .ensures) (c .before .stops .ensures) (c .before .before .before .before .before .before .before .added .ensures) (c .settled .ensures) (c .before .before .before .before .before .before .before .before .before .if1 .left)
 
 pub after-turn-spec : {M : Type 1} → statement M
 after-turn-spec =
@@ -40,11 +34,9 @@ after-turn-spec =
     (tie.spec
     returns
     added-requires
-    settled-requires
-    mul-ranges
-    array-set-from-ranges
+    add-t11
     add-t12
-    add-t15
     all-read-requires
     stops-requires
+    settled-requires
     returns-2)

@@ -1,17 +1,10 @@
 use denote.Ref.{now}
 use Rattle.externals_reader.proofs.TurnLaws.{turn-passed, turn-skipped, turn-ready, turn-lent}
-use Prim.Native.Nat.{_-_}
-use mathlib.Core.Path.{refl, sym, _∙_}
-use native.Mathlib.Omega.{arith}
 use borrow.Author.Needs.{needs}
+use Prim.Native.Nat.{_-_}
+use mathlib.Core.Path.{sym, _∙_}
 use Rattle.externals_reader.proofs.turns.turn.Statement.{statement}
 use Rattle.externals_reader.proofs.turns.turn.Tie as tie
-
-mul-range : tie.Need-mul-range
-mul-range c = search needs
-
-array-copy-out-range : tie.Need-array-copy-out-range
-array-copy-out-range c = search needs
 
 returns : tie.Need-returns
 returns c = turn-passed _ _ _ _ _ _ (c .if1 .taken)
@@ -20,7 +13,7 @@ is-skipped-requires : tie.Need-is-skipped-requires
 is-skipped-requires c κs = search needs
 
 returns-2 : tie.Need-returns-2
-returns-2 c = turn-skipped _ _ _ _ _ _ _ (c .before .before .if1 .left) (sym (c .before .is-skipped .ensures) ∙ c .if2 .taken) refl
+returns-2 c = turn-skipped _ _ _ _ _ _ (c .before .before .if1 .left) (sym (c .before .is-skipped .ensures) ∙ c .if2 .taken)
 
 pop-fronts-requires : tie.Need-pop-fronts-requires
 pop-fronts-requires c κs = search needs
@@ -39,25 +32,21 @@ range-turn-requires c κs = search needs
 
 after-turn-requires : tie.Need-after-turn-requires
 after-turn-requires c κs =
-    let c-args = c .before .before .before .before .before .before .before .before .before .before .before .before .before .before .before .args in
-    let c-pre = c .before .before .before .before .before .before .before .before .before .before .before .before .before .before .before .pre in
-    turn-ready (now (c-args .tables)) (now (c-args .area)) (c-args .t) (now (c-args .routes)) (c-args .x) (c-args .i) (c-args .r) (c-args .write) (now (c-args .out)) (omega (arith, c-pre .after .used, c-pre .room)) (c-pre .room) _ (c .before .before .before .before .before .pop-fronts .ensures) _ _ (c .before .before .range-turn .ensures) (c-pre .slot) (c-pre .after) (c-pre .small)
+    let c-args = c .before .before .before .before .before .before .before .before .before .before .before .before .before .args in
+    turn-ready (now (c-args .tables)) (now (c-args .area)) (c-args .t) (now (c-args .routes)) (c-args .x) (c-args .s) (c-args .range) (c-args .write) (now (c-args .out)) (c .before .before .before .before .before .before .before .before .before .before .before .before .before .pre) _ (c .before .before .before .before .before .pop-fronts .ensures) _ _ (c .before .before .range-turn .ensures)
 
 same-length : tie.Need-same-length
 same-length c = search needs
 
 returns-3 : tie.Need-returns-3
 returns-3 c =
-    let c-args = c .before .before .before .before .before .before .before .before .before .before .before .before .before .before .before .before .args in
-    let c-pre = c .before .before .before .before .before .before .before .before .before .before .before .before .before .before .before .before .pre in
-    turn-lent (now (c-args .tables)) (now (c-args .area)) (c-args .t) (now (c-args .routes)) (c-args .x) (c-args .i) (c-args .r) (c-args .write) (now (c-args .out)) (omega (arith, c-pre .after .used, c-pre .room)) (c-pre .room) _ (c .before .before .before .before .before .before .pop-fronts .ensures) _ _ (c .before .before .before .range-turn .ensures) (c .before .before .before .before .before .before .before .before .before .if1 .left) (sym (c .before .before .before .before .before .before .before .before .is-skipped .ensures) ∙ c .before .before .before .before .before .before .before .if2 .left) _ (c .after-turn .ensures)
+    let c-args = c .before .before .before .before .before .before .before .before .before .before .before .before .before .before .args in
+    turn-lent (now (c-args .tables)) (now (c-args .area)) (c-args .t) (now (c-args .routes)) (c-args .x) (c-args .s) (c-args .range) (c-args .write) (now (c-args .out)) (c .before .before .before .before .before .before .before .before .before .before .before .before .before .before .pre) _ (c .before .before .before .before .before .before .pop-fronts .ensures) _ _ (c .before .before .before .range-turn .ensures) (c .before .before .before .before .before .before .before .before .before .if1 .left) (sym (c .before .before .before .before .before .before .before .before .is-skipped .ensures) ∙ c .before .before .before .before .before .before .before .if2 .left) _ (c .after-turn .ensures)
 
 pub turn-spec : {M : Type 1} → statement M
 turn-spec =
     tie.close
     (tie.spec
-    mul-range
-    array-copy-out-range
     returns
     is-skipped-requires
     returns-2

@@ -1,0 +1,16 @@
+use Prim.Native.Nat.{_-_}
+use borrow.Author.Tests.{eq-eqb, ne-eqb}
+use Rattle.externals_reader.proofs.turns.turns_over.Statement.{statement}
+use Rattle.externals_reader.proofs.turns.turns_over.Tie as tie
+
+returns : tie.Need-returns
+returns c = rw (eq-eqb _ 0 (c .if1 .taken))
+
+returns-2 : tie.Need-returns-2
+returns-2 c = rw (ne-eqb _ 0 (c .before .before .if1 .left), ne-eqb _ 0 (c .if2 .taken))
+
+returns-3 : tie.Need-returns-3
+returns-3 c = rw (ne-eqb _ 0 (c .before .before .if1 .left), eq-eqb _ 0 (c .if2 .left))
+
+pub turns-over-spec : {M : Type 1} → statement M
+turns-over-spec = tie.close (tie.spec returns returns-2 returns-3)
