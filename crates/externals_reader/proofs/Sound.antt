@@ -13,8 +13,8 @@ use Rattle.rows.proofs.Laws.{part-cons, and-true, pick-yes, pick-no}
 use Rattle.externals_reader.specs.declared.ExternalsReaderState.{ExternalsReaderState}
 use Rattle.externals_reader.specs.declared.ExternalsReader.{ExternalsReader}
 use Rattle.externals_reader.specs.Calls.{settledNumber}
-use Rattle.externals_reader.specs.State.{noRange, heldRanges, rangeSound, soundFrom, stateNumber, settingsNumber}
-use Rattle.externals_reader.specs.Locals.{rangesNumber, piecesNumber}
+use Rattle.externals_reader.specs.State.{rangesNumber, noRange, heldRanges, rangeSound, soundFrom, stateNumber, settingsNumber}
+use Rattle.externals_reader.specs.Locals.{piecesNumber}
 use Rattle.messages_buffer.specs.Fullness.{firstNo, limitsNumber, partitionsNumber}
 use Rattle.range_reader.specs.declared.ExternalsRangeReaderState.{ExternalsRangeReaderState}
 use Rattle.range_reader.proofs.Numbers.{first-no, first-yes, first-alone}
@@ -46,11 +46,9 @@ sound-counts low (r ∷ l) e (suc i) h = sound-counts (suc (r .seqno)) l (and-tr
 -- ---- question 5
 module _ (ranges : List ExternalsRangeReaderState) (len : ℕ) where
   pub too-many-ranges : 16 < len → 5 ≡ rangesNumber ranges len
-  unfolding rangesNumber
   too-many-ranges h = rw (lt-leb len 16 h)
 
   pub unsound-ranges : soundFrom 0 (take len ranges) ≡ false → 5 ≡ rangesNumber ranges len
-  unfolding rangesNumber
   unsound-ranges e = sym (pick-no _ _ _ (ap (λ (b : Bool). leb len 16 && b) e ∙ and-no (leb len 16)))
     where
       and-no : (b : Bool) → (b && false) ≡ false
@@ -58,12 +56,11 @@ module _ (ranges : List ExternalsRangeReaderState) (len : ℕ) where
       and-no false = refl
 
   pub sound-table : len ≤ 16 → soundFrom 0 (take len ranges) ≡ true → 0 ≡ rangesNumber ranges len
-  unfolding rangesNumber
   sound-table h e = sym (pick-yes _ _ _ (ap (λ (b : Bool). b && soundFrom 0 (take len ranges)) (le-leb len 16 h) ∙ e))
 
 module _ (state : ExternalsReaderState) where
   pub by-ranges : rangesNumber (state .ranges) (state .len) ≡ stateNumber state
-  unfolding rangesNumber stateNumber
+  unfolding stateNumber
   by-ranges = refl
 
   -- what question 5 gives to a call that goes on

@@ -2,8 +2,8 @@
 use Prim.Native.Nat.{ℕ, _+_}
 use mathlib.Core.Bool.{Bool, true, false, not, _&&_, _||_}
 use mathlib.Core.List.{List, [], _∷_}
-use lib.Dec.{leb, eqb}
-use lib.ListN.{length, take}
+use lib.Dec.{eqb}
+use lib.ListN.{length}
 use Rattle.rows.specs.Rows.{pick}
 use Rattle.messages_buffer.specs.Fullness.{firstNo}
 use Rattle.anchors_cache.specs.declared.AnchorsCacheTransaction.{AnchorsCacheTransaction}
@@ -17,14 +17,11 @@ use Rattle.externals_reader.specs.declared.RangesRead.{RangesRead}
 use Rattle.externals_reader.specs.declared.ReadIntoBuffers.{ReadIntoBuffers}
 use Rattle.externals_reader.specs.declared.SoFar.{SoFar}
 use Rattle.externals_reader.specs.declared.TurnDone.{TurnDone}
-use Rattle.externals_reader.specs.State.{soundFrom, settingsNumber}
+use Rattle.externals_reader.specs.State.{rangesNumber, settingsNumber}
 use Rattle.externals_reader.specs.Rules.{settled, countsAdded, Told}
 use Rattle.externals_reader.specs.Calls.{readerAfter}
 
 -- ---- questions 4 and 5, of the reader's pieces
-unfoldable pub rangesNumber : List ExternalsRangeReaderState → ℕ → ℕ
-rangesNumber ranges len = pick (leb len 16 && soundFrom 0 (take len ranges)) 0 5
-
 abbrev pub piecesNumber : List ℕ → ℕ → List ExternalsRangeReaderState → ℕ → ℕ
 piecesNumber limits most ranges len = firstNo (settingsNumber limits most ∷ rangesNumber ranges len ∷ [])
 

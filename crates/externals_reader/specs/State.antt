@@ -43,8 +43,11 @@ soundFrom low [] = true
 soundFrom low (r ∷ l) = rangeSound low r && soundFrom (suc (r .seqno)) l
 
 -- Document 01: "Are there at most 16 ranges"
+abbrev pub rangesNumber : List ExternalsRangeReaderState → ℕ → ℕ
+rangesNumber ranges len = pick (leb len 16 && soundFrom 0 (take len ranges)) 0 5
+
 unfoldable pub stateNumber : ExternalsReaderState → ℕ
-stateNumber state = pick (leb (state .len) 16 && soundFrom 0 (heldRanges state)) 0 5
+stateNumber state = rangesNumber (state .ranges) (state .len)
 
 -- ---- question 4
 -- Document 01: "Is each limit at most 1,024 and the open-ranges limit at most 16?"

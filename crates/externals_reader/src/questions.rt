@@ -2,9 +2,9 @@
 ghost use Prim.Native.Nat.{_≤_};
 ghost use mathlib.Core.Path.{_≡_};
 ghost use lib.ListN.{take};
-ghost use Rattle.externals_reader.specs.State.{rangeSound, soundFrom};
+ghost use Rattle.externals_reader.specs.State.{rangeSound, soundFrom, rangesNumber};
 ghost use Rattle.externals_reader.specs.Calls.{readerNumber, askedOfRead};
-ghost use Rattle.externals_reader.specs.Locals.{rangesNumber, piecesNumber};
+ghost use Rattle.externals_reader.specs.Locals.{piecesNumber};
 use crate::ExternalsReader;
 use anchors_cache::AnchorsCacheTransaction;
 use range_reader::ExternalsRangeReaderState;
