@@ -367,22 +367,22 @@ pub(crate) fn ranges_read(
 {
     let mut ranges = start;
     let mut s = nothing_read();
-    let mut i = 0;
+    let mut at = 0;
     let mut left = len;
     loop {
         if turns_over(s, left) {
             break;
         }
-        let range = ranges[i];
+        let range = ranges[at];
         let done = turn(tables, area, t, routes, x, s, range, write, &mut *out);
         let next = done.range;
-        ranges[i] = next;
+        ranges[at] = next;
         s = done.so_far;
-        i += 1;
+        at += 1;
         left -= 1;
     }
-    let at = next::last_place(len);
-    let last = ranges[at];
+    let place = next::last_place(len);
+    let last = ranges[place];
     if !next::wants_next(x, s, last, len) {
         return ranges_so_far(s, ranges, len);
     }

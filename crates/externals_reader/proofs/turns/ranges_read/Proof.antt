@@ -13,10 +13,10 @@ use Rattle.externals_reader.proofs.turns.ranges_read.Statement.{stateme
 use Rattle.externals_reader.proofs.turns.ranges_read.Tie as tie
 
 abbrev Inv-loop : tie.InvT-loop
-Inv-loop tables area t routes x len write out₀ ranges₀ s₀ i₀ left₀ out ranges s i left = (length ranges ≡ 16) × Turning (windowRead tables area t routes x) (window-fits tables area t routes x) x write (readOf nothingRead ranges₀ len) out₀ (readOf s ranges len) i left out
+Inv-loop tables area t routes x len write out₀ ranges₀ s₀ at₀ left₀ out ranges s at left = (length ranges ≡ 16) × Turning (windowRead tables area t routes x) (window-fits tables area t routes x) x write (readOf nothingRead ranges₀ len) out₀ (readOf s ranges len) at left out
 
 abbrev μ-loop : tie.MeasureT-loop
-μ-loop tables area t routes x len write out₀ ranges₀ s₀ i₀ left₀ out ranges s i left = left
+μ-loop tables area t routes x len write out₀ ranges₀ s₀ at₀ left₀ out ranges s at left = left
 
 nothing-read-requires : tie.Need-nothing-read-requires Inv-loop μ-loop
 nothing-read-requires c κs = search needs
@@ -54,11 +54,11 @@ array-set-from-ranges c =
     let c-args = c .before .before .before .before .before .before .before .before .before .before .before .before .before .before .args in
     omega (arith, c-loop .inv .0, turning-slot (windowRead (now (c-args .tables)) (now (c-args .area)) (c-args .t) (now (c-args .routes)) (c-args .x)) (window-fits (now (c-args .tables)) (now (c-args .area)) (c-args .t) (now (c-args .routes)) (c-args .x)) (c-args .x) (c-args .write) (readOf nothingRead (c-args .start) (c-args .len)) (now (c-args .out)) (c .before .before .before .before .before .before .before .before .before .before .before .before .before .before .pre) _ _ _ _ (c-loop .inv .1) (sym (c .before .before .before .before .before .before .before .turns-over .ensures) ∙ c .before .before .before .before .before .before .if1 .left))
 
-add-i : tie.Need-add-i Inv-loop μ-loop
-add-i c =
+add-at : tie.Need-add-at Inv-loop μ-loop
+add-at c =
     let c-loop = c .before .before .before .before .before .before .before .before .before .loop in
     let c-args = c .before .before .before .before .before .before .before .before .before .before .before .before .before .before .before .args in
-    let h : c-loop .i + 1 < 18446744073709551616 = omega (arith, turning-slot (windowRead (now (c-args .tables)) (now (c-args .area)) (c-args .t) (now (c-args .routes)) (c-args .x)) (window-fits (now (c-args .tables)) (now (c-args .area)) (c-args .t) (now (c-args .routes)) (c-args .x)) (c-args .x) (c-args .write) (readOf nothingRead (c-args .start) (c-args .len)) (now (c-args .out)) (c .before .before .before .before .before .before .before .before .before .before .before .before .before .before .before .pre) _ _ _ _ (c-loop .inv .1) (sym (c .before .before .before .before .before .before .before .before .turns-over .ensures) ∙ c .before .before .before .before .before .before .before .if1 .left)) in search (needs, h)
+    let h : c-loop .at + 1 < 18446744073709551616 = omega (arith, turning-slot (windowRead (now (c-args .tables)) (now (c-args .area)) (c-args .t) (now (c-args .routes)) (c-args .x)) (window-fits (now (c-args .tables)) (now (c-args .area)) (c-args .t) (now (c-args .routes)) (c-args .x)) (c-args .x) (c-args .write) (readOf nothingRead (c-args .start) (c-args .len)) (now (c-args .out)) (c .before .before .before .before .before .before .before .before .before .before .before .before .before .before .before .pre) _ _ _ _ (c-loop .inv .1) (sym (c .before .before .before .before .before .before .before .before .turns-over .ensures) ∙ c .before .before .before .before .before .before .before .if1 .left)) in search (needs, h)
 
 sub-left : tie.Need-sub-left Inv-loop μ-loop
 sub-left c =
@@ -71,7 +71,7 @@ loop-again : tie.Need-loop-again Inv-loop μ-loop
 loop-again c =
     let c-loop = c .before .before .before .before .before .before .before .before .before .loop in
     let c-args = c .before .before .before .before .before .before .before .before .before .before .before .before .before .before .before .args in
-    (simp length-set (c-loop .inv .0), turning-next (windowRead (now (c-args .tables)) (now (c-args .area)) (c-args .t) (now (c-args .routes)) (c-args .x)) (window-fits (now (c-args .tables)) (now (c-args .area)) (c-args .t) (now (c-args .routes)) (c-args .x)) (c-args .x) (c-args .write) (readOf nothingRead (c-args .start) (c-args .len)) (now (c-args .out)) _ _ _ _ (c-loop .inv .1) (sym (c .before .before .before .before .before .before .before .before .turns-over .ensures) ∙ c .before .before .before .before .before .before .before .if1 .left) _ _ (c .before .before .before .before .turn .ensures .at (c-loop .ranges) (c-loop .i) (c-args .len) refl))
+    (simp length-set (c-loop .inv .0), turning-next (windowRead (now (c-args .tables)) (now (c-args .area)) (c-args .t) (now (c-args .routes)) (c-args .x)) (window-fits (now (c-args .tables)) (now (c-args .area)) (c-args .t) (now (c-args .routes)) (c-args .x)) (c-args .x) (c-args .write) (readOf nothingRead (c-args .start) (c-args .len)) (now (c-args .out)) _ _ _ _ (c-loop .inv .1) (sym (c .before .before .before .before .before .before .before .before .turns-over .ensures) ∙ c .before .before .before .before .before .before .before .if1 .left) _ _ (c .before .before .before .before .turn .ensures .at (c-loop .ranges) (c-loop .at) (c-args .len) refl))
 
 last-place-requires : tie.Need-last-place-requires Inv-loop μ-loop
 last-place-requires c κs = search needs
@@ -153,7 +153,7 @@ ranges-read-spec =
     turn-requires
     mul-ranges
     array-set-from-ranges
-    add-i
+    add-at
     sub-left
     loop-less
     loop-again
