@@ -15,6 +15,7 @@ use Rattle.messages_buffer.specs.Fullness.{firstNo}
 use Rattle.anchors_cache.specs.declared.AnchorsCacheTransaction.{AnchorsCacheTransaction}
 use Rattle.anchors_cache.specs.declared.Done.{Done}
 use Rattle.anchors_cache.specs.Calls.{popsCall}
+use Rattle.range_reader.proofs.LocalLaws.{set-same}
 use Rattle.range_reader.specs.declared.ExternalsRangeReaderState.{ExternalsRangeReaderState}
 use Rattle.range_reader.specs.declared.ReadCounts.{ReadCounts}
 use Rattle.range_reader.specs.declared.ReadExternals.{ReadExternals}
@@ -116,11 +117,6 @@ module _ (x : Fixed) (s : SoFar) (range : ExternalsRangeReaderState) (a : Told) 
     done-read z = rw (ae, se, ce, re) (sym (pick-yes (eqb (a .number) 0) _ _ (eq-eqb (a .number) 0 z)))
 
 -- ---- a range among the others
-set-same : {A : Type 0} (l : List A) (i : ℕ) (d : A) → set l i (getD l i d) ≡ l
-set-same [] i d = refl
-set-same (v ∷ l) zero d = refl
-set-same (v ∷ l) (suc i) d = ap (_∷_ v) (set-same l i d)
-
 module _ (ranges : List ExternalsRangeReaderState) (i : ℕ) (range : ExternalsRangeReaderState) (here : getD ranges i noRange ≡ range) where
   stays : set ranges i range ≡ ranges
   stays = ap (set ranges i) (sym here) ∙ set-same ranges i noRange

@@ -77,7 +77,7 @@ module _ (end : ExternalKey) (place : Place) (offset : ℕ) where
           ap (λ (t : ExternalKey). record { key = k; reached = endReached k end; position = k; to = t }) (raised-again (keyAt (place .key .«anchor_id») offset) (place .to))
 
 -- ---- lists
-set-same : {A : Type 0} (l : List A) (p : ℕ) (d : A) → set l p (getD l p d) ≡ l
+pub set-same : {A : Type 0} (l : List A) (p : ℕ) (d : A) → set l p (getD l p d) ≡ l
 set-same [] p d = refl
 set-same (x ∷ l) zero d = refl
 set-same (x ∷ l) (suc p) d = ap (_∷_ x) (set-same l p d)
