@@ -1,5 +1,5 @@
 -- The questions of the cache's calls, and what each call answers, for every argument. n is the length of the message area.
-use Prim.Native.Nat.{ℕ, zero, suc, _+_, _/_}
+use Prim.Native.Nat.{ℕ, zero, suc, _+_, _*_, _/_}
 use mathlib.Core.Bool.{Bool, true, false, not, _&&_}
 use mathlib.Core.List.{List, [], _∷_}
 use mathlib.Core.Option.{Option, none, some}
@@ -46,7 +46,7 @@ soundTotal low sum (a ∷ l) = pick (soundRow low a) (soundTotal (a .id + 1) (su
 
 -- the smallest message area, and how many messages an area of n bytes holds
 abbrev pub areaBytes : ℕ
-areaBytes = 33792
+areaBytes = 33 * maxMessages
 
 abbrev pub placesIn : ℕ → ℕ
 placesIn n = n / 33

@@ -4,17 +4,17 @@ use mathlib.Core.List.{List, [], _∷_, _++_, map}
 use lib.ListN.{drop}
 use Rattle.rows.specs.Rows.{part, le, word, rows}
 use Rattle.anchors_cache.specs.declared.AnchorsCache.{AnchorsCache}
-use Rattle.anchors_cache.specs.Rules.{Info, Anchor, Cache, Row, withRow}
+use Rattle.anchors_cache.specs.Rules.{Info, Anchor, Cache, Row, withRow, maxAnchors, maxHistory}
 
 -- where the rows of the anchors begin, and where they end
 abbrev pub historyBytes : ℕ
-historyBytes = 13312
+historyBytes = 52 * maxHistory
 
 abbrev pub anchorBytes : ℕ
-anchorBytes = 1600
+anchorBytes = 50 * maxAnchors
 
 abbrev pub tablesBytes : ℕ
-tablesBytes = 14912
+tablesBytes = historyBytes + anchorBytes
 
 -- a row of the anchors, and of the history
 unfoldable pub anchorRow : Row → List ℕ

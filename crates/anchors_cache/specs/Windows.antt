@@ -7,7 +7,7 @@ use lib.Dec.{ltb}
 use lib.ListN.{length}
 use Rattle.rows.specs.Rows.{pick, stays, appended}
 use Rattle.anchors_cache.specs.declared.AnchorsCache.{AnchorsCache}
-use Rattle.anchors_cache.specs.Rules.{Info, Row, dropStale, trimBack, trimHistory, total, maxAnchors, maxHistory}
+use Rattle.anchors_cache.specs.Rules.{Info, Row, dropStale, trimBack, trimHistory, total, maxAnchors, maxAnchorMessages, maxMessages, maxHistory}
 use Rattle.anchors_cache.specs.Tables.{historyBytes, anchorBytes, tablesBytes, anchorRow, infoRow, anchorsOf, historyOf}
 
 abbrev pub rowTime : Row → ℕ
@@ -108,7 +108,7 @@ addedArea a messages tables c area = pick (ltb 0 (a .ours)) (messagesAdded messa
 -- what question 5 says of a window, as far as an add leans on it
 pub record Sound (tables area : List ℕ) (c : AnchorsCache) : Type 0 where
   pub tall : tablesBytes ≤ length tables
-  pub broad : 33792 ≤ length area
+  pub broad : 33 * maxMessages ≤ length area
   pub in-anchors : c .first + c .len ≤ maxAnchors
   pub in-history : c .«history_first» + c .«history_len» ≤ maxHistory
   pub in-area : 33 * (c .base + usedBy tables c) ≤ length area
@@ -123,7 +123,7 @@ pub record Lies (tables : List ℕ) (c : AnchorsCache) : Type 0 where
 -- what questions 6 and 8 say of an add
 pub record Room (tables : List ℕ) (c : AnchorsCache) (ours : ℕ) (messages : List ℕ) : Type 0 where
   pub whole : 33 * (length messages / 33) ≡ length messages
-  pub few : length messages ≤ 16896
+  pub few : length messages ≤ 33 * maxAnchorMessages
   pub entries : c .«history_len» < maxHistory
   pub anchors : 0 < ours → c .len < maxAnchors
-  pub bytes : 0 < ours → 33 * usedBy tables c + length messages ≤ 33792
+  pub bytes : 0 < ours → 33 * usedBy tables c + length messages ≤ 33 * maxMessages

@@ -4,10 +4,10 @@ ghost use mathlib.Core.Path.{_≡_};
 ghost use Prim.Native.Nat.{ℕ, _+_, _*_, _/_, _<_, _≤_};
 ghost use lib.ListN.{length};
 ghost use Rattle.rows.specs.Rows.{pick};
-ghost use Rattle.anchors_cache.specs.Rules.{lastOf};
-ghost use Rattle.anchors_cache.specs.Tables.{anchors, infos};
+ghost use Rattle.anchors_cache.specs.Rules.{maxHistory, maxAnchors, lastOf};
+ghost use Rattle.anchors_cache.specs.Tables.{tablesBytes, anchors, infos};
 ghost use Rattle.anchors_cache.specs.Windows.{addedTables, addedArea};
-ghost use Rattle.anchors_cache.specs.Calls.{sameWindow, onZero, rowFor, addNumber, addCall, refusal, rowAt, infoRowAt, popCall, popsCall, trimCall, clearCall, openCall, commitCall, rollbackCall, closeCall, lastInfoCall, infoAtCtCall, lastIdCall, getCall, pendingCall, pendingInRangeCall, shownInfo, shownAnchor, closedTransaction};
+ghost use Rattle.anchors_cache.specs.Calls.{anyPlaces, sameWindow, onZero, rowFor, addNumber, addCall, refusal, rowAt, infoRowAt, popCall, popsCall, trimCall, clearCall, openCall, commitCall, rollbackCall, closeCall, lastInfoCall, infoAtCtCall, lastIdCall, getCall, pendingCall, pendingInRangeCall, shownInfo, shownAnchor, closedTransaction};
 use ext_types::ChainTime;
 use ext_types::ExternalKey;
 
@@ -247,7 +247,7 @@ pub fn add(
 
 // The anchor that is `i` behind the first of a window's `len` anchors, and its author.
 fn shown_anchor(tables: &[u8], first: usize, len: usize, base: usize, i: usize) -> AnchorAnswer
-    requires { ⌜ (first + len ≤ 32) × (14912 ≤ length (now tables)) × (base ≤ 558992244657865200) ⌝ }
+    requires { ⌜ (first + len ≤ maxAnchors) × (tablesBytes ≤ length (now tables)) × (base ≤ anyPlaces) ⌝ }
     ensures { λ r. ⌜ r ≡ shownAnchor i base (anchors first len (now (tables .entry))) ⌝ }
 {
     if len <= i {
@@ -269,7 +269,7 @@ fn shown_anchor(tables: &[u8], first: usize, len: usize, base: usize, i: usize) 
 
 // The last of `len` history entries, and its author.
 fn shown_info(tables: &[u8], first: usize, len: usize) -> InfoAnswer
-    requires { ⌜ (first + len ≤ 256) × (14912 ≤ length (now tables)) ⌝ }
+    requires { ⌜ (first + len ≤ maxHistory) × (tablesBytes ≤ length (now tables)) ⌝ }
     ensures { λ r. ⌜ r ≡ shownInfo (lastOf (infos first len (now (tables .entry)))) ⌝ }
 {
     if len == 0 {

@@ -3,8 +3,8 @@ ghost use mathlib.Core.Path.{_≡_};
 ghost use Prim.Native.Nat.{ℕ, _+_, _*_, _/_, _<_, _≤_};
 ghost use lib.Dec.{ltb, leb};
 ghost use lib.ListN.{length};
-ghost use Rattle.anchors_cache.specs.Rules.{sameBool, rightSize, aboveLast, lastOf, room};
-ghost use Rattle.anchors_cache.specs.Tables.{anchors, anchorsOf};
+ghost use Rattle.anchors_cache.specs.Rules.{maxAnchors, sameBool, rightSize, aboveLast, lastOf, room};
+ghost use Rattle.anchors_cache.specs.Tables.{tablesBytes, anchors, anchorsOf};
 ghost use Rattle.anchors_cache.specs.Calls.{soundAnchor, soundTotal, validCache, valid, refusal, refusalAt, refusalSeen, addNumber};
 use crate::AnchorsCache;
 use crate::AnchorsCacheTransaction;
@@ -48,7 +48,7 @@ fn is_sound(a: CachedAnchor, low: u64) -> bool
 
 // The messages of anchors that are as question 5 wants them.
 fn sound_total(tables: &[u8], first: usize, len: usize) -> Total
-    requires { ⌜ (first + len ≤ 32) × (14912 ≤ length (now tables)) ⌝ }
+    requires { ⌜ (first + len ≤ maxAnchors) × (tablesBytes ≤ length (now tables)) ⌝ }
     ensures { λ r. ⌜ r ≡ soundTotal 0 0 (anchors first len (now (tables .entry))) ⌝ }
 {
     let mut at = first;
@@ -167,7 +167,7 @@ fn right_size(ours: u32, k: usize) -> bool
 
 // Question 7.
 fn is_above(tables: &[u8], first: usize, len: usize, id: u32) -> bool
-    requires { ⌜ (first + len ≤ 32) × (14912 ≤ length (now tables)) ⌝ }
+    requires { ⌜ (first + len ≤ maxAnchors) × (tablesBytes ≤ length (now tables)) ⌝ }
     ensures { λ r. ⌜ r ≡ aboveLast id (lastOf (anchors first len (now (tables .entry)))) ⌝ }
 {
     if len == 0 {

@@ -5,8 +5,8 @@ ghost use mathlib.Core.Bool.{_&&_};
 ghost use lib.Dec.{ltb, leb};
 ghost use lib.ListN.{length};
 ghost use Rattle.rows.specs.Rows.{part};
-ghost use Rattle.anchors_cache.specs.Rules.{dropStale, trimBack, trimHistory, total};
-ghost use Rattle.anchors_cache.specs.Tables.{anchorRow, infoRow, anchors, infos, anchorAt, infoAt};
+ghost use Rattle.anchors_cache.specs.Rules.{maxAnchorMessages, maxHistory, maxAnchors, dropStale, trimBack, trimHistory, total};
+ghost use Rattle.anchors_cache.specs.Tables.{tablesBytes, anchorRow, infoRow, anchors, infos, anchorAt, infoAt};
 ghost use Rattle.anchors_cache.specs.Windows.{rowTime, infoFor};
 ghost use Rattle.anchors_cache.specs.Calls.{cachedAnchor, anchorInfo, rowFor};
 use crate::AnchorInfo;
@@ -22,7 +22,7 @@ pub(crate) const ANCHOR_BYTES: usize = 1600;
 
 // Whether a table of `cap` rows has one at an index.
 pub(crate) fn has_row(tables: &[u8], i: usize, cap: usize) -> bool
-    ensures { λ r. ⌜ r ≡ (ltb i cap && leb 14912 (length (now (tables .entry)))) ⌝ }
+    ensures { λ r. ⌜ r ≡ (ltb i cap && leb tablesBytes (length (now (tables .entry)))) ⌝ }
 {
     if cap <= i {
         return false;
@@ -32,7 +32,7 @@ pub(crate) fn has_row(tables: &[u8], i: usize, cap: usize) -> bool
 
 // The anchor in a row, with the place of its first message.
 pub(crate) fn anchor_at(tables: &[u8], i: usize, place: usize) -> CachedAnchor
-    requires { ⌜ (i < 32) × (14912 ≤ length (now tables)) ⌝ }
+    requires { ⌜ (i < maxAnchors) × (tablesBytes ≤ length (now tables)) ⌝ }
     ensures { λ r. ⌜ (r ≡ cachedAnchor place (anchorAt i (now (tables .entry)))) × (r .count < 65536) ⌝ }
 {
     let at = HISTORY_BYTES + 50 * i;
@@ -52,7 +52,7 @@ pub(crate) fn anchor_at(tables: &[u8], i: usize, place: usize) -> CachedAnchor
 
 // The history entry in a row.
 pub(crate) fn info_at(tables: &[u8], i: usize) -> AnchorInfo
-    requires { ⌜ (i < 256) × (14912 ≤ length (now tables)) ⌝ }
+    requires { ⌜ (i < maxHistory) × (tablesBytes ≤ length (now tables)) ⌝ }
     ensures { λ r. ⌜ r ≡ anchorInfo (infoAt i (now (tables .entry))) ⌝ }
 {
     let at = 52 * i;
@@ -81,7 +81,7 @@ pub(crate) fn author_at(tables: &[u8], at: usize) -> [u8; 32]
 
 // How many history entries stay where an anchor of chain time ct is popped.
 pub(crate) fn fresh_len(tables: &[u8], first: usize, len: usize, ct: ChainTime) -> usize
-    requires { ⌜ (first + len ≤ 256) × (14912 ≤ length (now tables)) ⌝ }
+    requires { ⌜ (first + len ≤ maxHistory) × (tablesBytes ≤ length (now tables)) ⌝ }
     ensures { λ r. ⌜ r ≡ length (dropStale (ct .0) (infos first len (now (tables .entry)))) ⌝ }
 {
     let mut at = first;
@@ -101,7 +101,7 @@ pub(crate) fn fresh_len(tables: &[u8], first: usize, len: usize, ct: ChainTime) 
 
 // How many cached anchors stay where those above ct go from the back.
 pub(crate) fn kept_len(tables: &[u8], first: usize, len: usize, ct: ChainTime) -> usize
-    requires { ⌜ (first + len ≤ 32) × (14912 ≤ length (now tables)) ⌝ }
+    requires { ⌜ (first + len ≤ maxAnchors) × (tablesBytes ≤ length (now tables)) ⌝ }
     ensures { λ r. ⌜ r ≡ length (trimBack rowTime (ct .0) (anchors first len (now (tables .entry)))) ⌝ }
 {
     let mut left = len;
@@ -119,7 +119,7 @@ pub(crate) fn kept_len(tables: &[u8], first: usize, len: usize, ct: ChainTime) -
 
 // The same for the history, whose front stays.
 pub(crate) fn history_kept_len(tables: &[u8], first: usize, len: usize, ct: ChainTime) -> usize
-    requires { ⌜ (first + len ≤ 256) × (14912 ≤ length (now tables)) ⌝ }
+    requires { ⌜ (first + len ≤ maxHistory) × (tablesBytes ≤ length (now tables)) ⌝ }
     ensures { λ r. ⌜ r ≡ length (trimHistory (ct .0) (infos first len (now (tables .entry)))) ⌝ }
 {
     let mut left = len;
@@ -137,7 +137,7 @@ pub(crate) fn history_kept_len(tables: &[u8], first: usize, len: usize, ct: Chai
 
 // The messages of anchors.
 pub(crate) fn total_count(tables: &[u8], first: usize, len: usize) -> usize
-    requires { ⌜ (first + len ≤ 32) × (14912 ≤ length (now tables)) ⌝ }
+    requires { ⌜ (first + len ≤ maxAnchors) × (tablesBytes ≤ length (now tables)) ⌝ }
     ensures { λ r. ⌜ (r ≡ total (anchors first len (now (tables .entry)))) × (r ≤ 65535 * len) ⌝ }
 {
     let mut at = first;
@@ -153,7 +153,7 @@ pub(crate) fn total_count(tables: &[u8], first: usize, len: usize) -> usize
 }
 
 pub(crate) fn info_row(a: MempoolAnchor, ours: u32, k: usize) -> [u8; 52]
-    requires { ⌜ k ≤ 16896 ⌝ }
+    requires { ⌜ k ≤ 33 * maxAnchorMessages ⌝ }
     ensures { λ r. ⌜ r ≡ infoRow (infoFor (rowFor a ours k)) ⌝ }
 {
     let time = a.chain_time;
@@ -168,7 +168,7 @@ pub(crate) fn info_row(a: MempoolAnchor, ours: u32, k: usize) -> [u8; 52]
 }
 
 pub(crate) fn anchor_row(a: MempoolAnchor, ours: u32, k: usize) -> [u8; 50]
-    requires { ⌜ k ≤ 16896 ⌝ }
+    requires { ⌜ k ≤ 33 * maxAnchorMessages ⌝ }
     ensures { λ r. ⌜ r ≡ anchorRow (rowFor a ours k) ⌝ }
 {
     let time = a.chain_time;

@@ -2,9 +2,11 @@
 ghost use mathlib.Core.Path.{_≡_};
 ghost use Prim.Native.Nat.{ℕ, _+_, _*_, _/_, _<_, _≤_};
 ghost use lib.ListN.{length};
+ghost use Rattle.anchors_cache.specs.Tables.{tablesBytes};
+ghost use Rattle.anchors_cache.specs.Rules.{maxAnchors, maxHistory};
 ghost use Rattle.rows.specs.Rows.{pick};
 ghost use Rattle.anchors_cache.specs.Windows.{poppedCache, poppedTimes, trimmedCache, inHistory, historyAdded, inCache, anchorAdded, messagesAdded, usedBy, addedCache, addedTables, addedArea, Sound, Room, Lies};
-ghost use Rattle.anchors_cache.specs.Calls.{rowFor, placedAt};
+ghost use Rattle.anchors_cache.specs.Calls.{areaBytes, anyPlaces, rowFor, placedAt};
 use crate::AnchorsCache;
 use crate::MempoolAnchor;
 use crate::tables;
@@ -12,7 +14,7 @@ use ext_types::ChainTime;
 use rows::Appended;
 
 pub(crate) fn popped_cache(tables: &[u8], cache: AnchorsCache) -> AnchorsCache
-    requires { ⌜ (14912 ≤ length (now tables)) × (cache .first + cache .len ≤ 32) × (cache .«history_first» + cache .«history_len» ≤ 256) × (cache .base ≤ 558992244657865200) ⌝ }
+    requires { ⌜ (tablesBytes ≤ length (now tables)) × (cache .first + cache .len ≤ maxAnchors) × (cache .«history_first» + cache .«history_len» ≤ maxHistory) × (cache .base ≤ anyPlaces) ⌝ }
     ensures { λ r. ⌜ r ≡ poppedCache (now (tables .entry)) cache ⌝ }
 {
     let first = cache.first;
@@ -53,7 +55,7 @@ pub(crate) fn popped_times(tables: &[u8], cache: AnchorsCache, count: usize) -> 
 }
 
 pub(crate) fn trimmed_cache(tables: &[u8], cache: AnchorsCache, ct: ChainTime) -> AnchorsCache
-    requires { ⌜ (14912 ≤ length (now tables)) × (cache .first + cache .len ≤ 32) × (cache .«history_first» + cache .«history_len» ≤ 256) ⌝ }
+    requires { ⌜ (tablesBytes ≤ length (now tables)) × (cache .first + cache .len ≤ maxAnchors) × (cache .«history_first» + cache .«history_len» ≤ maxHistory) ⌝ }
     ensures { λ r. ⌜ r ≡ trimmedCache (ct .0) (now (tables .entry)) cache ⌝ }
 {
     let len = cache.len;
@@ -81,7 +83,7 @@ fn placed(appended: Appended, first: usize) -> usize
 
 // The window and the tables with one history entry more.
 fn in_history(c: AnchorsCache, tables: &mut [u8], row: &[u8]) -> AnchorsCache
-    requires { ⌜ (14912 ≤ length (now tables)) × (length (now row) ≡ 52) × (c .«history_first» + c .«history_len» ≤ 256) × (c .«history_len» < 256) ⌝ }
+    requires { ⌜ (tablesBytes ≤ length (now tables)) × (length (now row) ≡ 52) × (c .«history_first» + c .«history_len» ≤ maxHistory) × (c .«history_len» < maxHistory) ⌝ }
     ensures { λ r. ⌜ (r ≡ inHistory c) × (now (tables .exit) ≡ historyAdded (now (row .entry)) c (now (tables .entry))) ⌝ }
 {
     let hf = c.history_first;
@@ -109,7 +111,7 @@ fn in_cache(
     row: &[u8],
     messages: &[u8],
 ) -> AnchorsCache
-    requires { ⌜ (14912 ≤ length (now tables)) × (33792 ≤ length (now area)) × (length (now row) ≡ 50) × (c .first + c .len ≤ 32) × (c .len < 32) × (33 * (c .base + used) ≤ length (now area)) × (33 * used + length (now messages) ≤ 33792) ⌝ }
+    requires { ⌜ (tablesBytes ≤ length (now tables)) × (areaBytes ≤ length (now area)) × (length (now row) ≡ 50) × (c .first + c .len ≤ maxAnchors) × (c .len < maxAnchors) × (33 * (c .base + used) ≤ length (now area)) × (33 * used + length (now messages) ≤ areaBytes) ⌝ }
     ensures { λ r. ⌜ (r ≡ inCache (length (now (area .entry))) (length (now (messages .entry))) used c) × (now (tables .exit) ≡ anchorAdded (now (row .entry)) c (now (tables .entry))) × (now (area .exit) ≡ messagesAdded (now (messages .entry)) used c (now (area .entry))) ⌝ }
 {
     let first = c.first;

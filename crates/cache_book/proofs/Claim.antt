@@ -13,10 +13,11 @@ use Rattle.anchors_cache.specs.declared.Done.{Done}
 use Rattle.anchors_cache.specs.Rules.{Cache, rowOf, popFront, trim, total, lastOf, rightSize, aboveLast, room, sameBool, ask}
 use Rattle.anchors_cache.specs.Tables.{anchorsOf, view}
 use Rattle.anchors_cache.specs.Windows.{poppedTimes, usedBy}
-use Rattle.anchors_cache.specs.Calls.{areaBytes, placesIn, refusal, refusalAt, onZero, answer, withCache, addNumber, addCall, popAnswer, popCall, trimAnswer, trimCall, clearCall, openCall, commitCall, rollbackCall, closeCall}
+use Rattle.anchors_cache.specs.Calls.{areaBytes, placesIn, refusal, refusalAt, onZero, answer, withCache, addNumber, addCall, popAnswer, popCall, popsCall, trimAnswer, trimCall, clearCall, openCall, commitCall, rollbackCall, closeCall}
 use Rattle.anchors_cache.proofs.Laws.{anchors-length, infos-length}
 use Rattle.anchors_cache.proofs.Asked.{Parts, valid-parts, refusal-zero, at-asked, at-refused, add-asked}
-use Rattle.cache_book.specs.Book.{Book, begin, finish, holds, bookRefusal, bookAdd, popTimes, Area, same, short, Reading, Call, pop, trimAbove, reads, commit, rollback, adds, opens, clears, closes, numberOf, enter, entered, bookNumbers, perform, performed, numbers, pops}
+use Rattle.cache_book.specs.Book.{Book, begin, finish, holds, bookRefusal, bookAdd, popTimes, Area, same, short, lend, Call, Reading, reading, enter, entered, bookNumbers, performed, numbers}
+use Rattle.cache_book.specs.Entries.{popping, poppingMany, trimming, committing, rollingBack, closing, opening, clearing, adding}
 use Rattle.cache_book.proofs.Views.{rows-of-messages, length-messages, view-popped, view-popped-times, view-trimmed}
 use Rattle.cache_book.proofs.Kept.{whole, popped-parts, times-parts, trimmed-parts, valid-of, holds-view}
 
@@ -102,20 +103,45 @@ on-self : {A : Type 0} (k : ℕ) (x : A) → onZero k x x ≡ x
 on-self zero x = refl
 on-self (suc k) x = refl
 
-module _ (tables area : List ℕ) (big : areaBytes ≤ length area) where
+-- ---- one call
+-- on the window and on the book the same number, and what is left still stands for the book
+abbrev pub Follows : List ℕ → List ℕ → Call → Type 0
+Follows tables area k = (t : AnchorsCacheTransaction) (b : Book) → Stands tables area t b
+    → (k .on-window tables area t .number ≡ k .number area b) × Stands tables area (k .on-window tables area t .state) (enter area k b)
+
+-- 1 on both sides, where question 1 refuses the area
+abbrev pub Refuses : Call → Type 0
+Refuses k = (tables bytes : List ℕ) → length bytes < areaBytes → (t : AnchorsCacheTransaction) (b : Book) → (k .on-window tables bytes t ≡ record { number = 1; state = t }) × (k .number bytes b ≡ 1)
+
+-- what a call owes the book
+pub record Simulates (k : Call) : Type 0 where
+  pub follows : (tables area : List ℕ) → areaBytes ≤ length area → Follows tables area k
+  pub refuses : Refuses k
+
+-- a call that is lent an area which question 1 refuses follows, whatever it does on others: so a close may stand in the list
+pub short-follows : (k : Call) → Refuses k → (bytes : List ℕ) (p : length bytes < areaBytes) (tables area : List ℕ) → Follows tables area (lend (short bytes p) k)
+unfolding enter
+short-follows k r bytes p tables area t b s = let q = r tables bytes p t b in rw (q .0, q .1) (refl, s)
+
+pub lent-follows : (k : Call) → Simulates k → (a : Area) (tables area : List ℕ) → areaBytes ≤ length area → Follows tables area (lend a k)
+lent-follows k m same tables area big = m .follows tables area big
+lent-follows k m (short bytes p) tables area big = short-follows k (m .refuses) bytes p tables area
+
+-- ---- the calls of the cache
+module _ (tables area : List ℕ) (big : areaBytes ≤ length area) (t : AnchorsCacheTransaction) (b : Book) (s : Stands tables area t b) where
   abbrev places : ℕ
   places = placesIn (length area)
 
-  Entered : Call → Book → Done → Type 0
-  Entered k b d = (d .number ≡ numberOf area k b) × Stands tables area (d .state) (enter area k b)
+  abbrev Next : Call → Type 0
+  Next k = (k .on-window tables area t .number ≡ k .number area b) × Stands tables area (k .on-window tables area t .state) (enter area k b)
 
-  stands-by : (k : ℕ) (u t : AnchorsCacheTransaction) (c b : Book) → Stands tables area u c → Stands tables area t b → Stands tables area (onZero k u t) (onZero k c b)
-  stands-by zero u t c b p q = p
-  stands-by (suc k) u t c b p q = q
+  stands-by : (k : ℕ) (u : AnchorsCacheTransaction) (c : Book) → Stands tables area u c → Stands tables area (onZero k u t) (onZero k c b)
+  stands-by zero u c p = p
+  stands-by (suc k) u c p = s
 
-  step-pop : (a : Area) (t : AnchorsCacheTransaction) (b : Book) → Stands tables area t b → Entered (pop a) b (perform tables area (pop a) t)
-  unfolding Entered numberOf enter popCall popAnswer
-  step-pop same t b s =
+  pop-next : Next popping
+  unfolding enter popCall popAnswer popTimes
+  pop-next =
       rw (accepted tables area big t b s, book-accepts tables area big t b s 0) (
         refl,
         record {
@@ -127,11 +153,25 @@ module _ (tables area : List ℕ) (big : areaBytes ≤ length area) where
           mark = s .mark;
         },
       )
-  step-pop (short bytes p) t b s = rw (short-refusal (length bytes) p tables t, short-book (length bytes) p b 0) (refl, s)
 
-  step-trim : (a : Area) (ct : ℕ) (t : AnchorsCacheTransaction) (b : Book) → Stands tables area t b → Entered (trimAbove a ct) b (perform tables area (trimAbove a ct) t)
-  unfolding Entered numberOf enter trimCall trimAnswer
-  step-trim same ct t b s =
+  pops-next : (n : ℕ) → Next (poppingMany n)
+  unfolding enter popsCall answer
+  pops-next n =
+      rw (accepted tables area big t b s, book-accepts tables area big t b s 0) (
+        refl,
+        record {
+          is-open = s .is-open;
+          now-ok = times-parts places tables n (t .cache) (s .now-ok);
+          then-ok = s .then-ok;
+          present = view-popped-times n tables area (t .cache) ∙ ap (popTimes n) (s .present);
+          opening = s .opening;
+          mark = s .mark;
+        },
+      )
+
+  trim-next : (ct : ℕ) → Next (trimming ct)
+  unfolding enter trimCall trimAnswer
+  trim-next ct =
       rw (accepted tables area big t b s, book-accepts tables area big t b s 0) (
         refl,
         record {
@@ -143,19 +183,18 @@ module _ (tables area : List ℕ) (big : areaBytes ≤ length area) where
           mark = s .mark;
         },
       )
-  step-trim (short bytes p) ct t b s = rw (short-refusal (length bytes) p tables t, short-book (length bytes) p b 0) (refl, s)
 
   -- a read enters as the pops that the rules make
-  step-reads : (a : Area) (r : Reading) (t : AnchorsCacheTransaction) (b : Book) → Stands tables area t b → Entered (reads a r) b (perform tables area (reads a r) t)
-  unfolding Entered numberOf enter answer
-  step-reads same r t b s =
+  reading-next : (r : Reading) → Next (reading (r .number) (r .pops) (r .on-window))
+  unfolding enter answer
+  reading-next r =
       let e = r .agrees tables area t (s .is-open) big (whole places tables (t .cache) (s .now-ok)) (whole places tables (t .undo) (s .then-ok)) in
       let n : r .number area (view tables area (t .cache)) (view tables area (t .undo)) ≡ r .number area (b .present) (b .opening) = rw (s .present, s .opening) in
       let m : r .pops area (view tables area (t .cache)) ≡ r .pops area (b .present) = ap (r .pops area) (s .present) in
       let k = r .pops area (b .present) in
       rw (e, n, m) (
         refl,
-        stands-by (r .number area (b .present) (b .opening)) (withCache t (poppedTimes k tables (t .cache))) t (record { opening = b .opening; present = popTimes k (b .present); mark = b .mark }) b
+        stands-by (r .number area (b .present) (b .opening)) (withCache t (poppedTimes k tables (t .cache))) (record { opening = b .opening; present = popTimes k (b .present); mark = b .mark })
             (record {
               is-open = s .is-open;
               now-ok = times-parts places tables k (t .cache) (s .now-ok);
@@ -163,69 +202,120 @@ module _ (tables area : List ℕ) (big : areaBytes ≤ length area) where
               present = view-popped-times k tables area (t .cache) ∙ ap (popTimes k) (s .present);
               opening = s .opening;
               mark = s .mark;
-            })
-            s,
+            }),
       )
-  step-reads (short bytes p) r t b s =
-      let q = r .refused tables bytes t (b .present) (b .opening) p in
-      rw (q .0, q .1) (refl, s)
 
-  step-commit : (a : Area) (t : AnchorsCacheTransaction) (b : Book) → Stands tables area t b → Entered (commit a) b (perform tables area (commit a) t)
-  unfolding Entered numberOf enter commitCall answer
-  step-commit same t b s =
+  commit-next : Next committing
+  unfolding enter commitCall answer
+  commit-next =
       rw (accepted-at tables area big t b s true, book-accepts tables area big t b s 0)
       (refl, record { is-open = s .is-open; now-ok = s .now-ok; then-ok = s .then-ok; present = s .present; opening = s .opening; mark = refl })
-  step-commit (short bytes p) t b s = rw (short-at (length bytes) p tables t true, short-book (length bytes) p b 0) (refl, s)
 
-  step-rollback : (a : Area) (t : AnchorsCacheTransaction) (b : Book) → Stands tables area t b → Entered (rollback a) b (perform tables area (rollback a) t)
-  unfolding Entered numberOf enter rollbackCall answer
-  step-rollback same t b s =
+  rollback-next : Next rollingBack
+  unfolding enter rollbackCall answer
+  rollback-next =
       rw (accepted-at tables area big t b s true, book-accepts tables area big t b s 0)
       (refl, record { is-open = s .is-open; now-ok = s .then-ok; then-ok = s .then-ok; present = s .opening; opening = s .opening; mark = s .mark })
-  step-rollback (short bytes p) t b s = rw (short-at (length bytes) p tables t true, short-book (length bytes) p b 0) (refl, s)
 
-  step-adds : (a : Area) (m : MempoolAnchor) (ours : ℕ) (messages : List ℕ) (t : AnchorsCacheTransaction) (b : Book) → Stands tables area t b → Entered (adds a m ours messages) b (perform tables area (adds a m ours messages) t)
-  unfolding Entered numberOf enter addCall answer
-  step-adds same m ours messages t b s =
+  add-next : (m : MempoolAnchor) (ours : ℕ) (messages : List ℕ) → Next (adding m ours messages)
+  unfolding enter addCall answer
+  add-next m ours messages =
       let k = length messages in
       let x = bookAdd (m .id) ours k (b .present) 9 in
       rw (add-number tables area big t b s (m .id) ours k, book-accepts tables area big t b s x) (refl, rw (add-never (m .id) ours k (b .present) _ t, on-self x b) s)
-  step-adds (short bytes p) m ours messages t b s =
-      rw (short-add (length bytes) p tables t (m .id) ours (length messages), short-book (length bytes) p b (bookAdd (m .id) ours (length messages) (b .present) 9)) (refl, s)
 
-  step-opens : (a : Area) (t : AnchorsCacheTransaction) (b : Book) → Stands tables area t b → Entered (opens a) b (perform tables area (opens a) t)
-  unfolding Entered numberOf enter openCall answer
-  step-opens same t b s = rw (accepted-at tables area big t b s false, book-accepts tables area big t b s 9) (refl, s)
-  step-opens (short bytes p) t b s = rw (short-at (length bytes) p tables t false, short-book (length bytes) p b 9) (refl, s)
+  open-next : Next opening
+  unfolding enter openCall answer
+  open-next = rw (accepted-at tables area big t b s false, book-accepts tables area big t b s 9) (refl, s)
 
-  step-clears : (a : Area) (t : AnchorsCacheTransaction) (b : Book) → Stands tables area t b → Entered (clears a) b (perform tables area (clears a) t)
-  unfolding Entered numberOf enter clearCall answer
-  step-clears same t b s = rw (accepted-at tables area big t b s false, book-accepts tables area big t b s 9) (refl, s)
-  step-clears (short bytes p) t b s = rw (short-at (length bytes) p tables t false, short-book (length bytes) p b 9) (refl, s)
+  clear-next : Next clearing
+  unfolding enter clearCall answer
+  clear-next = rw (accepted-at tables area big t b s false, book-accepts tables area big t b s 9) (refl, s)
 
-  step-closes : (bytes : List ℕ) (p : length bytes < areaBytes) (t : AnchorsCacheTransaction) (b : Book) → Stands tables area t b → Entered (closes bytes p) b (perform tables area (closes bytes p) t)
-  unfolding Entered numberOf enter closeCall answer
-  step-closes bytes p t b s = rw (short-at (length bytes) p tables t true, short-book (length bytes) p b 0) (refl, s)
+module _ (tables bytes : List ℕ) (few : length bytes < areaBytes) (t : AnchorsCacheTransaction) where
+  abbrev One : Call → Type 0
+  One k = k .on-window tables bytes t ≡ record { number = 1; state = t }
 
-  step : (k : Call) (t : AnchorsCacheTransaction) (b : Book) → Stands tables area t b → Entered k b (perform tables area k t)
-  step (pop a) = step-pop a
-  step (trimAbove a ct) = step-trim a ct
-  step (reads a r) = step-reads a r
-  step (commit a) = step-commit a
-  step (rollback a) = step-rollback a
-  step (adds a m ours messages) = step-adds a m ours messages
-  step (opens a) = step-opens a
-  step (clears a) = step-clears a
-  step (closes bytes p) = step-closes bytes p
+  pop-1 : One popping
+  unfolding popCall popAnswer
+  pop-1 = rw (short-refusal (length bytes) few tables t)
 
-  steps : (ks : List Call) (t : AnchorsCacheTransaction) (b : Book) → Stands tables area t b
-      → (numbers tables area ks t ≡ bookNumbers area ks b) × Stands tables area (performed tables area ks t) (entered area ks b)
-  unfolding numbers bookNumbers performed entered Entered
-  steps [] t b s = (refl, s)
-  steps (k ∷ ks) t b s =
-      let p = step k t b s in
-      let q = steps ks (perform tables area k t .state) (enter area k b) (p .1) in
-      (rw (p .0) (ap (λ (l : List ℕ). numberOf area k b ∷ l) (q .0)), q .1)
+  pops-1 : (n : ℕ) → One (poppingMany n)
+  unfolding popsCall answer
+  pops-1 n = rw (short-refusal (length bytes) few tables t)
+
+  trim-1 : (ct : ℕ) → One (trimming ct)
+  unfolding trimCall trimAnswer
+  trim-1 ct = rw (short-refusal (length bytes) few tables t)
+
+  commit-1 : One committing
+  unfolding commitCall answer
+  commit-1 = rw (short-at (length bytes) few tables t true)
+
+  rollback-1 : One rollingBack
+  unfolding rollbackCall answer
+  rollback-1 = rw (short-at (length bytes) few tables t true)
+
+  close-1 : One closing
+  unfolding closeCall answer
+  close-1 = rw (short-at (length bytes) few tables t true)
+
+  open-1 : One opening
+  unfolding openCall answer
+  open-1 = rw (short-at (length bytes) few tables t false)
+
+  clear-1 : One clearing
+  unfolding clearCall answer
+  clear-1 = rw (short-at (length bytes) few tables t false)
+
+  add-1 : (m : MempoolAnchor) (ours : ℕ) (messages : List ℕ) → One (adding m ours messages)
+  unfolding addCall answer
+  add-1 m ours messages = rw (short-add (length bytes) few tables t (m .id) ours (length messages))
+
+pub pop-simulates : Simulates popping
+pop-simulates = record { follows = pop-next; refuses = λ tables bytes few t b. (pop-1 tables bytes few t, short-book (length bytes) few b 0) }
+
+pub pops-simulates : (n : ℕ) → Simulates (poppingMany n)
+pops-simulates n = record { follows = λ tables area big t b s. pops-next tables area big t b s n; refuses = λ tables bytes few t b. (pops-1 tables bytes few t n, short-book (length bytes) few b 0) }
+
+pub trim-simulates : (ct : ℕ) → Simulates (trimming ct)
+trim-simulates ct = record { follows = λ tables area big t b s. trim-next tables area big t b s ct; refuses = λ tables bytes few t b. (trim-1 tables bytes few t ct, short-book (length bytes) few b 0) }
+
+pub reading-simulates : (r : Reading) → Simulates (reading (r .number) (r .pops) (r .on-window))
+reading-simulates r = record { follows = λ tables area big t b s. reading-next tables area big t b s r; refuses = λ tables bytes few t b. r .refused tables bytes t (b .present) (b .opening) few }
+
+pub commit-simulates : Simulates committing
+commit-simulates = record { follows = commit-next; refuses = λ tables bytes few t b. (commit-1 tables bytes few t, short-book (length bytes) few b 0) }
+
+pub rollback-simulates : Simulates rollingBack
+rollback-simulates = record { follows = rollback-next; refuses = λ tables bytes few t b. (rollback-1 tables bytes few t, short-book (length bytes) few b 0) }
+
+pub add-simulates : (m : MempoolAnchor) (ours : ℕ) (messages : List ℕ) → Simulates (adding m ours messages)
+add-simulates m ours messages =
+    record {
+      follows = λ tables area big t b s. add-next tables area big t b s m ours messages;
+      refuses = λ tables bytes few t b. (add-1 tables bytes few t m ours messages, short-book (length bytes) few b (bookAdd (m .id) ours (length messages) (b .present) 9));
+    }
+
+pub open-simulates : Simulates opening
+open-simulates = record { follows = open-next; refuses = λ tables bytes few t b. (open-1 tables bytes few t, short-book (length bytes) few b 9) }
+
+pub clear-simulates : Simulates clearing
+clear-simulates = record { follows = clear-next; refuses = λ tables bytes few t b. (clear-1 tables bytes few t, short-book (length bytes) few b 9) }
+
+pub close-refuses : Refuses closing
+close-refuses tables bytes few t b = (close-1 tables bytes few t, short-book (length bytes) few b 0)
+
+-- ---- lists of calls
+module _ (tables area : List ℕ) (big : areaBytes ≤ length area) where
+  steps : {K : Type 0} (call : K → Call) → ((k : K) → Follows tables area (call k)) → (ks : List K) (t : AnchorsCacheTransaction) (b : Book) → Stands tables area t b
+      → (numbers tables area (map call ks) t ≡ bookNumbers area (map call ks) b) × Stands tables area (performed tables area (map call ks) t) (entered area (map call ks) b)
+  unfolding numbers bookNumbers performed entered
+  steps call each [] t b s = (refl, s)
+  steps call each (k ∷ ks) t b s =
+      let p = each k t b s in
+      let q = steps call each ks (call k .on-window tables area t .state) (enter area (call k) b) (p .1) in
+      (rw (p .0) (ap (λ (l : List ℕ). call k .number area b ∷ l) (q .0)), q .1)
 
   closed : (u : AnchorsCacheTransaction) (b : Book) → Stands tables area u b → (closeCall (length area) tables u .number ≡ 0) × (view tables area (closeCall (length area) tables u .state .cache) ≡ finish b)
   unfolding closeCall answer
@@ -250,20 +340,21 @@ open-asked n tables t e = go (refusal n tables t) refl
     go zero h = refl
     go (suc m) h = sym h ∙ (sym (at-refused n tables t false (λ (f : refusal n tables t ≡ 0). omega arith)) ∙ e)
 
--- Any cache and area for which the questions give open the number 0, any list of calls, then a close with the area of the run:
+-- Any cache and area for which the questions give open the number 0, any list of calls that follow the book, then a close with the area of the run:
 -- each number is the book's, the close answers 0, and the cache is the book's.
-pub the-book : (tables area : List ℕ) (t : AnchorsCacheTransaction) (ks : List Call) → openCall (length area) tables t .number ≡ 0
+pub the-book : {K : Type 0} (call : K → Call) → ((k : K) (tables area : List ℕ) → areaBytes ≤ length area → Follows tables area (call k))
+    → (tables area : List ℕ) (t : AnchorsCacheTransaction) (ks : List K) → openCall (length area) tables t .number ≡ 0
     → let u = openCall (length area) tables t .state in
-    let d = closeCall (length area) tables (performed tables area ks u) in
+    let d = closeCall (length area) tables (performed tables area (map call ks) u) in
     let b = begin (view tables area (t .cache)) in
-    (numbers tables area ks u ≡ bookNumbers area ks b) × (d .number ≡ 0) × (view tables area (d .state .cache) ≡ finish (entered area ks b))
+    (numbers tables area (map call ks) u ≡ bookNumbers area (map call ks) b) × (d .number ≡ 0) × (view tables area (d .state .cache) ≡ finish (entered area (map call ks) b))
 unfolding openCall answer
-the-book tables area t ks e =
+the-book call each tables area t ks e =
     let z = open-asked (length area) tables t e in
     let big = refusal-zero (length area) tables t z .0 in
     let b = begin (view tables area (t .cache)) in
-    let p = steps tables area big ks (openCall (length area) tables t .state) b (opened tables area t z e) in
-    let q = closed tables area big (performed tables area ks (openCall (length area) tables t .state)) (entered area ks b) (p .1) in
+    let p = steps tables area big call (λ k. each k tables area big) ks (openCall (length area) tables t .state) b (opened tables area t z e) in
+    let q = closed tables area big (performed tables area (map call ks) (openCall (length area) tables t .state)) (entered area (map call ks) b) (p .1) in
     (p .0, q .0, q .1)
 
 -- The tables are one list for the whole run: an add in it is refused, and its contract writes tables and area only on number 0.

@@ -1,38 +1,29 @@
--- What the claim says of an abandoned attempt and of a committed one, and `pop_fronts` as a call that reads.
-use Prim.Native.Nat.{ℕ, zero, suc}
+-- What the claim says of an abandoned attempt and of a committed one.
+use Prim.Native.Nat.{ℕ, zero, suc, _≤_}
 use mathlib.Core.Path.{_≡_, refl, sym, ap, _∙_}
-use mathlib.Core.Bool.{Bool, true, false, _&&_, _||_}
-use mathlib.Core.List.{List, [], _∷_, _++_}
-use lib.Dec.{leb}
+use mathlib.Core.Bool.{Bool, true, false, _||_}
+use mathlib.Core.List.{List, [], _∷_, _++_, map}
 use lib.ListN.{length}
-use borrow.Author.Tests.{le-leb, lt-leb}
 use Rattle.rows.specs.Rows.{pick}
 use Rattle.anchors_cache.specs.declared.AnchorsCacheTransaction.{AnchorsCacheTransaction}
-use Rattle.anchors_cache.specs.Rules.{Cache, popFront, trim, ask}
+use Rattle.anchors_cache.specs.Rules.{Cache}
 use Rattle.anchors_cache.specs.Tables.{view}
-use Rattle.anchors_cache.specs.Calls.{areaBytes, placesIn, refusal, onZero, answer, popsCall, openCall, closeCall}
-use Rattle.anchors_cache.proofs.Asked.{parts}
-use Rattle.cache_book.specs.Book.{Book, begin, holds, popTimes, lent, Reading, Call, pop, trimAbove, reads, commit, rollback, adds, opens, clears, closes, numberOf, change, enter, entered, performed, commitsNow, committedIn, Step, pops, trims, apply, applied, stepsNow, sinceRollback}
-use Rattle.cache_book.proofs.Kept.{valid-of, holds-view}
-use Rattle.cache_book.proofs.Claim.{the-book}
+use Rattle.anchors_cache.specs.Calls.{areaBytes, onZero, openCall, closeCall}
+use Rattle.cache_book.specs.Book.{Book, begin, Change, apply, applied, Effect, changes, commits, rolls-back, nothing, onBook, Call, enter, entered, performed, isCommit, committedIn, keptBy, sinceRollback}
+use Rattle.cache_book.proofs.Claim.{Follows, the-book}
 
 -- ---- the opening cache stays
-opening-now : (area : List ℕ) (n : ℕ) (k : Call) (b : Book) → onZero n (change area k b) b .opening ≡ b .opening
-opening-now area (suc n) k b = refl
-opening-now area zero (pop a) b = refl
-opening-now area zero (trimAbove a ct) b = refl
-opening-now area zero (reads a r) b = refl
-opening-now area zero (commit a) b = refl
-opening-now area zero (rollback a) b = refl
-opening-now area zero (adds a m ours messages) b = refl
-opening-now area zero (opens a) b = refl
-opening-now area zero (clears a) b = refl
-opening-now area zero (closes bytes p) b = refl
+opening-now : (n : ℕ) (e : Effect) (b : Book) → onZero n (onBook e b) b .opening ≡ b .opening
+opening-now (suc n) e b = refl
+opening-now zero (changes c) b = refl
+opening-now zero commits b = refl
+opening-now zero rolls-back b = refl
+opening-now zero nothing b = refl
 
 opening-kept : (area : List ℕ) (ks : List Call) (b : Book) → entered area ks b .opening ≡ b .opening
 unfolding entered enter
 opening-kept area [] b = refl
-opening-kept area (k ∷ ks) b = opening-kept area ks (enter area k b) ∙ opening-now area (numberOf area k b) k b
+opening-kept area (k ∷ ks) b = opening-kept area ks (enter area k b) ∙ opening-now (k .number area b) (k .effect area (b .present)) b
 
 -- ---- the mark is set by a commit that answers 0, and by nothing else
 or-false : (x : Bool) → x ≡ (x || false)
@@ -47,87 +38,69 @@ or-or : (x y z : Bool) → ((x || y) || z) ≡ (x || (y || z))
 or-or true y z = refl
 or-or false y z = refl
 
-mark-now : (area : List ℕ) (n : ℕ) (k : Call) (b : Book) → onZero n (change area k b) b .mark ≡ (b .mark || commitsNow n k)
-mark-now area (suc n) k b = or-false (b .mark)
-mark-now area zero (pop a) b = or-false (b .mark)
-mark-now area zero (trimAbove a ct) b = or-false (b .mark)
-mark-now area zero (reads a r) b = or-false (b .mark)
-mark-now area zero (commit a) b = or-true (b .mark)
-mark-now area zero (rollback a) b = or-false (b .mark)
-mark-now area zero (adds a m ours messages) b = or-false (b .mark)
-mark-now area zero (opens a) b = or-false (b .mark)
-mark-now area zero (clears a) b = or-false (b .mark)
-mark-now area zero (closes bytes p) b = or-false (b .mark)
+mark-now : (n : ℕ) (e : Effect) (b : Book) → onZero n (onBook e b) b .mark ≡ (b .mark || onZero n (isCommit e) false)
+mark-now (suc n) e b = or-false (b .mark)
+mark-now zero (changes c) b = or-false (b .mark)
+mark-now zero commits b = or-true (b .mark)
+mark-now zero rolls-back b = or-false (b .mark)
+mark-now zero nothing b = or-false (b .mark)
 
 mark-after : (area : List ℕ) (ks : List Call) (b : Book) → entered area ks b .mark ≡ (b .mark || committedIn area ks b)
 unfolding entered enter committedIn
 mark-after area [] b = or-false (b .mark)
 mark-after area (k ∷ ks) b =
+    let n = k .number area b in
+    let e = k .effect area (b .present) in
     mark-after area ks (enter area k b)
-    ∙ (ap (λ (x : Bool). x || committedIn area ks (enter area k b)) (mark-now area (numberOf area k b) k b) ∙ or-or (b .mark) (commitsNow (numberOf area k b) k) (committedIn area ks (enter area k b)))
+    ∙ (ap (λ (x : Bool). x || committedIn area ks (enter area k b)) (mark-now n e b) ∙ or-or (b .mark) (onZero n (isCommit e) false) (committedIn area ks (enter area k b)))
 
--- ---- the present cache is the steps since the last rollback on the opening one
-applied-snoc : (l : List Step) (s : Step) (v : Cache) → applied (l ++ (s ∷ [])) v ≡ apply s (applied l v)
+-- ---- the present cache is the changes since the last rollback on the opening one
+applied-snoc : (l : List Change) (c : Change) (v : Cache) → applied (l ++ (c ∷ [])) v ≡ apply c (applied l v)
 unfolding applied
-applied-snoc [] s v = refl
-applied-snoc (x ∷ l) s v = applied-snoc l s (apply x v)
+applied-snoc [] c v = refl
+applied-snoc (x ∷ l) c v = applied-snoc l c (apply x v)
 
-module _ (area : List ℕ) where
-  present-now : (n : ℕ) (k : Call) (b : Book) (done : List Step) → b .present ≡ applied done (b .opening) → onZero n (change area k b) b .present ≡ applied (stepsNow area n k (b .present) done) (b .opening)
-  unfolding applied popTimes
-  present-now (suc n) k b done e = e
-  present-now zero (pop a) b done e = ap popFront e ∙ sym (applied-snoc done (pops 1) (b .opening))
-  present-now zero (trimAbove a ct) b done e = ap (trim ct) e ∙ sym (applied-snoc done (trims ct) (b .opening))
-  present-now zero (reads a r) b done e = ap (popTimes (r .pops (lent area a) (b .present))) e ∙ sym (applied-snoc done (pops (r .pops (lent area a) (b .present))) (b .opening))
-  present-now zero (commit a) b done e = e
-  present-now zero (rollback a) b done e = refl
-  present-now zero (adds a m ours messages) b done e = e
-  present-now zero (opens a) b done e = e
-  present-now zero (clears a) b done e = e
-  present-now zero (closes bytes p) b done e = e
+present-now : (n : ℕ) (e : Effect) (b : Book) (done : List Change) → b .present ≡ applied done (b .opening) → onZero n (onBook e b) b .present ≡ applied (onZero n (keptBy e done) done) (b .opening)
+unfolding applied
+present-now (suc n) e b done h = h
+present-now zero (changes c) b done h = ap (apply c) h ∙ sym (applied-snoc done c (b .opening))
+present-now zero commits b done h = h
+present-now zero rolls-back b done h = refl
+present-now zero nothing b done h = h
 
-  present-after : (ks : List Call) (b : Book) (done : List Step) → b .present ≡ applied done (b .opening) → entered area ks b .present ≡ applied (sinceRollback area ks b done) (b .opening)
-  unfolding entered enter sinceRollback
-  present-after [] b done e = e
-  present-after (k ∷ ks) b done e =
-      let o = opening-now area (numberOf area k b) k b in
-      let c = onZero (numberOf area k b) (change area k b) b in
-      let l = stepsNow area (numberOf area k b) k (b .present) done in
-      present-after ks c l (present-now (numberOf area k b) k b done e ∙ ap (applied l) (sym o)) ∙ ap (applied (sinceRollback area ks c l)) o
+present-after : (area : List ℕ) (ks : List Call) (b : Book) (done : List Change) → b .present ≡ applied done (b .opening) → entered area ks b .present ≡ applied (sinceRollback area ks b done) (b .opening)
+unfolding entered enter sinceRollback
+present-after area [] b done h = h
+present-after area (k ∷ ks) b done h =
+    let n = k .number area b in
+    let e = k .effect area (b .present) in
+    let o = opening-now n e b in
+    let c = onZero n (onBook e b) b in
+    let l = onZero n (keptBy e done) done in
+    present-after area ks c l (present-now n e b done h ∙ ap (applied l) (sym o)) ∙ ap (applied (sinceRollback area ks c l)) o
 
-module _ (tables area : List ℕ) (t : AnchorsCacheTransaction) (ks : List Call) (zero-open : openCall (length area) tables t .number ≡ 0) where
+module _ {K : Type 0} (call : K → Call) (each : (k : K) (tables area : List ℕ) → areaBytes ≤ length area → Follows tables area (call k))
+    (tables area : List ℕ) (t : AnchorsCacheTransaction) (ks : List K) (zero-open : openCall (length area) tables t .number ≡ 0) where
+  abbrev calls : List Call
+  calls = map call ks
+
   abbrev final : Cache
-  final = view tables area (closeCall (length area) tables (performed tables area ks (openCall (length area) tables t .state)) .state .cache)
+  final = view tables area (closeCall (length area) tables (performed tables area calls (openCall (length area) tables t .state)) .state .cache)
 
   abbrev start : Book
   start = begin (view tables area (t .cache))
 
   -- with no commit answering 0 the cache is as at opening
-  pub an-abandoned-attempt-leaves-the-cache : committedIn area ks start ≡ false → final ≡ view tables area (t .cache)
+  pub an-abandoned-attempt-leaves-the-cache : committedIn area (map call ks) (begin (view tables area (t .cache))) ≡ false
+      → view tables area (closeCall (length area) tables (performed tables area (map call ks) (openCall (length area) tables t .state)) .state .cache) ≡ view tables area (t .cache)
   an-abandoned-attempt-leaves-the-cache e =
-      the-book tables area t ks zero-open .2
-      ∙ (ap (λ (m : Bool). pick m (entered area ks start .present) (entered area ks start .opening)) (mark-after area ks start ∙ e) ∙ opening-kept area ks start)
+      the-book call each tables area t ks zero-open .2
+      ∙ (ap (λ (m : Bool). pick m (entered area calls start .present) (entered area calls start .opening)) (mark-after area calls start ∙ e) ∙ opening-kept area calls start)
 
   -- with one, anywhere, it is what the pops and trims after the last rollback answering 0 give on the opening cache
-  pub a-committed-attempt-keeps-the-steps-since-the-last-rollback : committedIn area ks start ≡ true → final ≡ applied (sinceRollback area ks start []) (view tables area (t .cache))
+  pub a-committed-attempt-keeps-the-changes-since-the-last-rollback : committedIn area (map call ks) (begin (view tables area (t .cache))) ≡ true
+      → view tables area (closeCall (length area) tables (performed tables area (map call ks) (openCall (length area) tables t .state)) .state .cache) ≡ applied (sinceRollback area (map call ks) (begin (view tables area (t .cache))) []) (view tables area (t .cache))
   unfolding applied
-  a-committed-attempt-keeps-the-steps-since-the-last-rollback e =
-      the-book tables area t ks zero-open .2
-      ∙ (ap (λ (m : Bool). pick m (entered area ks start .present) (entered area ks start .opening)) (mark-after area ks start ∙ e) ∙ present-after area ks start [] refl)
-
--- ---- `pop_fronts`
-unfoldable pub pop-fronts : ℕ → Reading
-unfolding popsCall refusal answer
-pop-fronts count =
-    record {
-      number = λ area present opening. ask 1 (leb areaBytes (length area)) (ask 5 (holds present && holds opening) 0);
-      pops = λ area present. count;
-      on-window = λ tables area t. popsCall (length area) count tables t;
-      agrees =
-          λ tables area t active big now then.
-          let n = placesIn (length area) in
-          let p = parts n tables (t .cache) now in
-          let q = parts n tables (t .undo) then in
-          rw (le-leb areaBytes (length area) big, valid-of n tables t p (λ h. q), holds-view n tables area (t .cache) p, holds-view n tables area (t .undo) q);
-      refused = λ tables area t v w few. (rw (lt-leb areaBytes (length area) few), rw (lt-leb areaBytes (length area) few));
-    }
+  a-committed-attempt-keeps-the-changes-since-the-last-rollback e =
+      the-book call each tables area t ks zero-open .2
+      ∙ (ap (λ (m : Bool). pick m (entered area calls start .present) (entered area calls start .opening)) (mark-after area calls start ∙ e) ∙ present-after area calls start [] refl)

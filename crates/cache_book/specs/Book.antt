@@ -7,12 +7,11 @@ use lib.Dec.{leb}
 use lib.ListN.{length}
 use Rattle.rows.specs.Rows.{pick}
 use Rattle.anchors_cache.specs.declared.AnchorsCacheTransaction.{AnchorsCacheTransaction}
-use Rattle.anchors_cache.specs.declared.MempoolAnchor.{MempoolAnchor}
 use Rattle.anchors_cache.specs.declared.Done.{Done}
 use Rattle.anchors_cache.specs.Rules.{Cache, rowOf, popFront, trim, soundCache, total, lastOf, rightSize, aboveLast, room, ask}
 use Rattle.anchors_cache.specs.Tables.{view}
 use Rattle.anchors_cache.specs.Windows.{poppedTimes}
-use Rattle.anchors_cache.specs.Calls.{areaBytes, placesIn, validCache, onZero, answer, withCache, rowFor, addNumber, addCall, popCall, trimCall, clearCall, openCall, commitCall, rollbackCall, closeCall}
+use Rattle.anchors_cache.specs.Calls.{areaBytes, placesIn, validCache, onZero, answer, withCache}
 
 -- document 01's book: "an opening and a present cache", and its mark, which `commit` sets and nothing unsets
 pub record Book : Type 0 where
@@ -49,7 +48,40 @@ unfoldable pub popTimes : ℕ → Cache → Cache
 popTimes zero v = v
 popTimes (suc n) v = popTimes n (popFront v)
 
--- ---- the calls
+-- ---- what a call does
+-- pops and trims: what a call makes of the present cache
+pub data Change : Type 0 where
+  pops : ℕ → Change
+  trims : ℕ → Change
+
+abbrev pub apply : Change → Cache → Cache
+apply (pops n) v = popTimes n v
+apply (trims ct) v = trim ct v
+
+unfoldable pub applied : List Change → Cache → Cache
+applied [] v = v
+applied (c ∷ l) v = applied l (apply c v)
+
+-- what a call that answers 0 does to the book
+pub data Effect : Type 0 where
+  changes : Change → Effect
+  commits : Effect
+  rolls-back : Effect
+  nothing : Effect
+
+-- "Pop and trim work on the present cache, a read by the pops that the rules below make there. `commit` sets the mark and ends nothing; `rollback` makes the present cache the opening one"
+abbrev pub onBook : Effect → Book → Book
+onBook (changes c) b = record { opening = b .opening; present = apply c (b .present); mark = b .mark }
+onBook commits b = record { opening = b .opening; present = b .present; mark = true }
+onBook rolls-back b = record { opening = b .opening; present = b .opening; mark = b .mark }
+onBook nothing b = b
+
+-- A call with what it is handed beside cache and transaction: on the book its number, by the questions, and what it does where that is 0; on the window what its contract says.
+pub record Call : Type 0 where
+  pub number : List ℕ → Book → ℕ
+  pub effect : List ℕ → Cache → Effect
+  pub on-window : List ℕ → List ℕ → AnchorsCacheTransaction → Done
+
 -- the message area of the run, or one that question 1 refuses
 pub data Area : Type 0 where
   same : Area
@@ -59,8 +91,60 @@ abbrev pub lent : List ℕ → Area → List ℕ
 lent area same = area
 lent area (short bytes p) = bytes
 
--- A call that reads: whatever else it is handed, its number comes from the area and the book's caches, and it changes the cache by pops alone.
--- `on-window` is what the code's contract says of it.
+-- a call that is lent its own area
+abbrev pub lend : Area → Call → Call
+lend a k = record { number = λ area b. k .number (lent area a) b; effect = λ area v. k .effect (lent area a) v; on-window = λ tables area t. k .on-window tables (lent area a) t }
+
+-- a call that changes the cache by pops alone: its number and its pops come from the area and the book's caches
+abbrev pub reading : (List ℕ → Cache → Cache → ℕ) → (List ℕ → Cache → ℕ) → (List ℕ → List ℕ → AnchorsCacheTransaction → Done) → Call
+reading number count on-window = record { number = λ area b. number area (b .present) (b .opening); effect = λ area v. changes (pops (count area v)); on-window = on-window }
+
+-- ---- lists of calls
+-- "a refused call is skipped"
+unfoldable pub enter : List ℕ → Call → Book → Book
+enter area k b = onZero (k .number area b) (onBook (k .effect area (b .present)) b) b
+
+unfoldable pub entered : List ℕ → List Call → Book → Book
+entered area [] b = b
+entered area (k ∷ ks) b = entered area ks (enter area k b)
+
+unfoldable pub bookNumbers : List ℕ → List Call → Book → List ℕ
+bookNumbers area [] b = []
+bookNumbers area (k ∷ ks) b = k .number area b ∷ bookNumbers area ks (enter area k b)
+
+-- the same calls on the window
+unfoldable pub performed : List ℕ → List ℕ → List Call → AnchorsCacheTransaction → AnchorsCacheTransaction
+performed tables area [] t = t
+performed tables area (k ∷ ks) t = performed tables area ks (k .on-window tables area t .state)
+
+unfoldable pub numbers : List ℕ → List ℕ → List Call → AnchorsCacheTransaction → List ℕ
+numbers tables area [] t = []
+numbers tables area (k ∷ ks) t = k .on-window tables area t .number ∷ numbers tables area ks (k .on-window tables area t .state)
+
+-- ---- for the two corollaries
+abbrev pub isCommit : Effect → Bool
+isCommit (changes c) = false
+isCommit commits = true
+isCommit rolls-back = false
+isCommit nothing = false
+
+-- whether a commit in the list answers 0
+unfoldable pub committedIn : List ℕ → List Call → Book → Bool
+committedIn area [] b = false
+committedIn area (k ∷ ks) b = onZero (k .number area b) (isCommit (k .effect area (b .present))) false || committedIn area ks (enter area k b)
+
+-- the changes that a call answering 0 adds to those done so far; a rollback starts anew
+abbrev pub keptBy : Effect → List Change → List Change
+keptBy (changes c) done = done ++ (c ∷ [])
+keptBy commits done = done
+keptBy rolls-back done = []
+keptBy nothing done = done
+
+unfoldable pub sinceRollback : List ℕ → List Call → Book → List Change → List Change
+sinceRollback area [] b done = done
+sinceRollback area (k ∷ ks) b done = sinceRollback area ks (enter area k b) (onZero (k .number area b) (keptBy (k .effect area (b .present)) done) done)
+
+-- What a call of the kind `reading` is proved by: `agrees` on an area that is large enough, `refused` on one that question 1 refuses.
 pub record Reading : Type 0 where
   pub number : List ℕ → Cache → Cache → ℕ
   pub pops : List ℕ → Cache → ℕ
@@ -69,119 +153,3 @@ pub record Reading : Type 0 where
       → t .active ≡ true → areaBytes ≤ length area → validCache (placesIn (length area)) tables (t .cache) ≡ true → validCache (placesIn (length area)) tables (t .undo) ≡ true
       → on-window tables area t ≡ answer (number area (view tables area (t .cache)) (view tables area (t .undo))) t (withCache t (poppedTimes (pops area (view tables area (t .cache))) tables (t .cache)))
   pub refused : (tables area : List ℕ) (t : AnchorsCacheTransaction) (v w : Cache) → length area < areaBytes → (on-window tables area t ≡ record { number = 1; state = t }) × (number area v w ≡ 1)
-
-pub data Call : Type 0 where
-  pop : Area → Call
-  trimAbove : Area → ℕ → Call
-  reads : Area → Reading → Call
-  commit : Area → Call
-  rollback : Area → Call
-  adds : Area → MempoolAnchor → ℕ → List ℕ → Call
-  opens : Area → Call
-  clears : Area → Call
-  closes : (bytes : List ℕ) → length bytes < areaBytes → Call
-
--- a call's number: what the questions give on what it is handed and on the book's caches, with the transaction open
-unfoldable pub numberOf : List ℕ → Call → Book → ℕ
-numberOf area (pop a) b = bookRefusal (length (lent area a)) b 0
-numberOf area (trimAbove a ct) b = bookRefusal (length (lent area a)) b 0
-numberOf area (reads a r) b = r .number (lent area a) (b .present) (b .opening)
-numberOf area (commit a) b = bookRefusal (length (lent area a)) b 0
-numberOf area (rollback a) b = bookRefusal (length (lent area a)) b 0
-numberOf area (adds a m ours messages) b = bookRefusal (length (lent area a)) b (bookAdd (m .id) ours (length messages) (b .present) 9)
-numberOf area (opens a) b = bookRefusal (length (lent area a)) b 9
-numberOf area (clears a) b = bookRefusal (length (lent area a)) b 9
-numberOf area (closes bytes p) b = bookRefusal (length bytes) b 0
-
--- what a call that answers 0 does to the book
-abbrev pub change : List ℕ → Call → Book → Book
-change area (pop a) b = record { opening = b .opening; present = popFront (b .present); mark = b .mark }
-change area (trimAbove a ct) b = record { opening = b .opening; present = trim ct (b .present); mark = b .mark }
-change area (reads a r) b = record { opening = b .opening; present = popTimes (r .pops (lent area a) (b .present)) (b .present); mark = b .mark }
-change area (commit a) b = record { opening = b .opening; present = b .present; mark = true }
-change area (rollback a) b = record { opening = b .opening; present = b .opening; mark = b .mark }
-change area (adds a m ours messages) b = b
-change area (opens a) b = b
-change area (clears a) b = b
-change area (closes bytes p) b = b
-
--- a refused call is skipped
-unfoldable pub enter : List ℕ → Call → Book → Book
-enter area k b = onZero (numberOf area k b) (change area k b) b
-
-unfoldable pub entered : List ℕ → List Call → Book → Book
-entered area [] b = b
-entered area (k ∷ ks) b = entered area ks (enter area k b)
-
-unfoldable pub bookNumbers : List ℕ → List Call → Book → List ℕ
-bookNumbers area [] b = []
-bookNumbers area (k ∷ ks) b = numberOf area k b ∷ bookNumbers area ks (enter area k b)
-
--- ---- the same calls on the window, as the contracts say
-abbrev pub perform : List ℕ → List ℕ → Call → AnchorsCacheTransaction → Done
-perform tables area (pop a) t = let d = popCall (length (lent area a)) tables t in record { number = d .number; state = d .state }
-perform tables area (trimAbove a ct) t = let d = trimCall (length (lent area a)) ct tables t in record { number = d .number; state = d .state }
-perform tables area (reads a r) t = r .on-window tables (lent area a) t
-perform tables area (commit a) t = commitCall (length (lent area a)) tables t
-perform tables area (rollback a) t = rollbackCall (length (lent area a)) tables t
-perform tables area (adds a m ours messages) t =
-    addCall (addNumber (length (lent area a)) tables t (m .id) ours (length messages)) (rowFor m ours (length messages)) (length (lent area a)) (length messages) tables t
-perform tables area (opens a) t = openCall (length (lent area a)) tables t
-perform tables area (clears a) t = clearCall (length (lent area a)) tables t
-perform tables area (closes bytes p) t = closeCall (length bytes) tables t
-
-unfoldable pub performed : List ℕ → List ℕ → List Call → AnchorsCacheTransaction → AnchorsCacheTransaction
-performed tables area [] t = t
-performed tables area (k ∷ ks) t = performed tables area ks (perform tables area k t .state)
-
-unfoldable pub numbers : List ℕ → List ℕ → List Call → AnchorsCacheTransaction → List ℕ
-numbers tables area [] t = []
-numbers tables area (k ∷ ks) t = perform tables area k t .number ∷ numbers tables area ks (perform tables area k t .state)
-
--- ---- for the corollaries
--- whether a commit in the list answers 0
-abbrev pub commitsNow : ℕ → Call → Bool
-commitsNow zero (commit a) = true
-commitsNow zero (pop a) = false
-commitsNow zero (trimAbove a ct) = false
-commitsNow zero (reads a r) = false
-commitsNow zero (rollback a) = false
-commitsNow zero (adds a m ours messages) = false
-commitsNow zero (opens a) = false
-commitsNow zero (clears a) = false
-commitsNow zero (closes bytes p) = false
-commitsNow (suc n) k = false
-
-unfoldable pub committedIn : List ℕ → List Call → Book → Bool
-committedIn area [] b = false
-committedIn area (k ∷ ks) b = commitsNow (numberOf area k b) k || committedIn area ks (enter area k b)
-
--- pops and trims
-pub data Step : Type 0 where
-  pops : ℕ → Step
-  trims : ℕ → Step
-
-abbrev pub apply : Step → Cache → Cache
-apply (pops n) v = popTimes n v
-apply (trims ct) v = trim ct v
-
-unfoldable pub applied : List Step → Cache → Cache
-applied [] v = v
-applied (s ∷ l) v = applied l (apply s v)
-
--- the steps of a list after its last rollback answering 0 (all, if there was none); `done` are those before it
-abbrev pub stepsNow : List ℕ → ℕ → Call → Cache → List Step → List Step
-stepsNow area (suc n) k v done = done
-stepsNow area zero (pop a) v done = done ++ (pops 1 ∷ [])
-stepsNow area zero (trimAbove a ct) v done = done ++ (trims ct ∷ [])
-stepsNow area zero (reads a r) v done = done ++ (pops (r .pops (lent area a) v) ∷ [])
-stepsNow area zero (rollback a) v done = []
-stepsNow area zero (commit a) v done = done
-stepsNow area zero (adds a m ours messages) v done = done
-stepsNow area zero (opens a) v done = done
-stepsNow area zero (clears a) v done = done
-stepsNow area zero (closes bytes p) v done = done
-
-unfoldable pub sinceRollback : List ℕ → List Call → Book → List Step → List Step
-sinceRollback area [] b done = done
-sinceRollback area (k ∷ ks) b done = sinceRollback area ks (enter area k b) (stepsNow area (numberOf area k b) k (b .present) done)

@@ -22,10 +22,9 @@ use Rattle.range_reader.specs.declared.ReadExternals.{ReadExternals}
 use Rattle.range_reader.specs.declared.RangeRead.{RangeRead}
 use Rattle.range_reader.specs.declared.ReadNextExternalsMode.{ReadNextExternalsMode}
 use Rattle.range_reader.specs.Rules.{Outcome, silent, followed}
-use Rattle.range_reader.specs.Ready.{Wrote}
+use Rattle.range_reader.specs.Ready.{Wrote, AtMost}
 use Rattle.range_reader.specs.Calls.{ReadResult, askedNumber, rangeRead, refusedAnswer, doneResult, readCall, checkCall}
-use Rattle.range_book.proofs.Laws.{AtMost}
-use Rattle.range_book.proofs.Bounds.{Bounded, every-answer-is-bounded, a-read-with-number-0-stores-its-entries}
+use Rattle.range_reader.proofs.Bounds.{Bounded, every-answer-is-bounded, a-read-with-number-0-stores-its-entries}
 use Rattle.externals_reader.specs.declared.Fixed.{Fixed}
 use Rattle.externals_reader.specs.declared.RangesRead.{RangesRead}
 use Rattle.externals_reader.specs.declared.SoFar.{SoFar}

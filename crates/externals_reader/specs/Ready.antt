@@ -9,9 +9,8 @@ use Rattle.anchors_cache.specs.declared.AnchorsCacheTransaction.{AnchorsCacheTr
 use Rattle.range_reader.specs.declared.ReadCounts.{ReadCounts}
 use Rattle.range_reader.specs.declared.ReadExternals.{ReadExternals}
 use Rattle.range_reader.specs.declared.ExternalsRangeReaderState.{ExternalsRangeReaderState}
-use Rattle.range_reader.specs.Ready.{Wrote}
+use Rattle.range_reader.specs.Ready.{Wrote, AtMost}
 use Rattle.range_reader.specs.Calls.{readCall}
-use Rattle.range_book.proofs.Laws.{AtMost}
 use Rattle.externals_reader.specs.declared.Fixed.{Fixed}
 use Rattle.externals_reader.specs.declared.RangesRead.{RangesRead}
 use Rattle.externals_reader.specs.declared.SoFar.{SoFar}

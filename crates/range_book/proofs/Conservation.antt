@@ -44,7 +44,7 @@ use Rattle.range_reader.proofs.Numbers.{passed}
 use Rattle.range_reader.proofs.CallLaws.{zeros}
 use Rattle.range_reader.proofs.RefusalLaws.{never, message-place}
 use Rattle.range_book.proofs.Laws.{finished-place}
-use Rattle.range_book.proofs.Bounds.{a-read-with-number-0-does-the-six-steps}
+use Rattle.range_reader.proofs.Bounds.{a-read-with-number-0-does-the-six-steps}
 
 -- ---- counting per partition
 -- ours of partition p among some messages

@@ -1,6 +1,4 @@
 pub mod Entered
 pub mod Laws
-pub mod Entries
-pub mod Bounds
 pub mod Conservation
 pub mod Eleven

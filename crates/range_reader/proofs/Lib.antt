@@ -1,7 +1,11 @@
 pub mod Counts
+pub mod EntryLaws
 pub mod MessageLaws
 pub mod LocalLaws
 pub mod AnchorLaws
 pub mod Numbers
 pub mod CallLaws
 pub mod RefusalLaws
+pub mod Kept
+pub mod Entries
+pub mod Bounds

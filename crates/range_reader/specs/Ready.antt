@@ -15,6 +15,7 @@ use Rattle.anchors_cache.specs.declared.CachedAnchor.{CachedAnchor}
 use Rattle.anchors_cache.specs.Rules.{total}
 use Rattle.anchors_cache.specs.Tables.{anchorsOf}
 use Rattle.range_reader.specs.declared.Context.{Context}
+use Rattle.range_reader.specs.declared.ReadCounts.{ReadCounts}
 use Rattle.range_reader.specs.declared.Walk.{Walk}
 use Rattle.range_reader.specs.declared.RangeRead.{RangeRead}
 use Rattle.range_reader.specs.Rules.{Outcome}
@@ -31,6 +32,12 @@ pub record Within (x : Context) (k : ℕ) (w : Walk) : Type 0 where
   pub expired : (i : ℕ) → getD (w .counts .expired) i 0 ≤ k
   pub buffered : (i : ℕ) → getD (w .counts .buffered) i 0 ≤ k
   pub full : w .buffers .full ≡ rangeFull (x .limits) (w .buffers .«by_partitions»)
+
+-- every count is at most k
+pub record AtMost (k : ℕ) (c : ReadCounts) : Type 0 where
+  pub read : (i : ℕ) → getD (c .read) i 0 ≤ k
+  pub expired : (i : ℕ) → getD (c .expired) i 0 ≤ k
+  pub buffered : (i : ℕ) → getD (c .buffered) i 0 ≤ k
 
 -- n more messages leave every count within 1,024
 pub record Few (x : Context) (n : ℕ) (w : Walk) : Type 0 where

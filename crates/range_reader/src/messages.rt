@@ -210,11 +210,12 @@ fn put_entry(out: &mut [u8], at: usize, e: Entry)
 {
     let key = e.key;
     let time = e.time;
-    rows::put_le(&mut *out, at, e.seqno as u64, 4);
-    rows::put_le(&mut *out, at + 4, e.partition as u64, 2);
-    rows::put_le(&mut *out, at + 6, key.anchor_id as u64, 4);
-    rows::put_le(&mut *out, at + 10, key.msgs_offset, 8);
-    rows::put_le(&mut *out, at + 18, time.0, 8);
+    let row = &mut out[at..at + ENTRY_LEN];
+    rows::put_le(&mut *row, 0, e.seqno as u64, 4);
+    rows::put_le(&mut *row, 4, e.partition as u64, 2);
+    rows::put_le(&mut *row, 6, key.anchor_id as u64, 4);
+    rows::put_le(&mut *row, 10, key.msgs_offset, 8);
+    rows::put_le(&mut *row, 18, time.0, 8);
 }
 
 // An entry, where the run writes.

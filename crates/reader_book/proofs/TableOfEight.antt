@@ -2,7 +2,7 @@
 use Prim.Native.Nat.{ℕ, _-_, _/_, _^_, _≤_, _<_}
 use mathlib.Core.Path.{_≡_, refl, sym, ap, _∙_}
 use mathlib.Core.Bool.{Bool, true, false}
-use mathlib.Core.List.{List, [], _∷_}
+use mathlib.Core.List.{List, [], _∷_, map}
 use native.Mathlib.Omega.{arith}
 use native.Mathlib.Nat.{div-eq-of-lt-le}
 use lib.Dec.{eqb}
@@ -25,7 +25,7 @@ use Rattle.anchors_cache.specs.Tables.{view}
 use Rattle.anchors_cache.specs.Windows.{poppedCache}
 use Rattle.anchors_cache.specs.Calls.{areaBytes, placesIn, refusal, answer, openCall, closeCall}
 use Rattle.anchors_cache.proofs.Asked.{valid-parts, refusal-zero}
-use Rattle.cache_book.specs.Book.{Book, begin, finish, holds, bookRefusal, same}
+use Rattle.cache_book.specs.Book.{Book, begin, finish, holds, bookRefusal, popTimes, same, enter, entered, bookNumbers, performed, numbers}
 use Rattle.cache_book.proofs.Views.{view-popped}
 use Rattle.cache_book.proofs.Kept.{popped-parts, holds-view}
 use Rattle.cache_book.proofs.Claim.{open-asked}
@@ -33,7 +33,7 @@ use Rattle.range_reader.specs.declared.ReadNextExternalsMode.the-variants.{ToTh
 use Rattle.range_reader.specs.declared.Verdict.the-variants.{Keep, Buffer}
 use Rattle.range_reader.specs.Rules.{keyAt, noKey, judge, advanced, stopped, refusedWith, readOne, buffered, bufferOne, entryBytes, ourRead, messageRead, messagesRead, looked, expired, finished, anchorRead, anchorsRead}
 use Rattle.range_book.specs.OneRange.{Handed, bookSteps, bookReadNumber}
-use Rattle.reader_book.specs.Steps.{Step, pop, commit, rollback, numberInBook, nextBook, bookAfter, numbersInBook, windowAfter, numbersOnWindow}
+use Rattle.reader_book.specs.Steps.{Step, pop, commit, rollback, call}
 use Rattle.reader_book.proofs.DemandThree.{demand-three}
 
 -- ---- one range at chain time `time`, with one partition: its limit, its processed position and the range's own
@@ -100,8 +100,8 @@ pub record Table : Type 0 where
   pub opening-cache : (tables area : List ℕ) (t : AnchorsCacheTransaction) → openCall (length area) tables t .number ≡ 0
       → let u = openCall (length area) tables t .state in
       let steps = pop same ∷ commit same ∷ rollback same ∷ [] in
-      let d = closeCall (length area) tables (windowAfter tables area steps u) in
-      (numbersOnWindow tables area steps u ≡ 0 ∷ 0 ∷ 0 ∷ []) × (d .number ≡ 0) × (view tables area (d .state .cache) ≡ view tables area (t .cache))
+      let d = closeCall (length area) tables (performed tables area (map call steps) u) in
+      (numbers tables area (map call steps) u ≡ 0 ∷ 0 ∷ 0 ∷ []) × (d .number ≡ 0) × (view tables area (d .state .cache) ≡ view tables area (t .cache))
 
 old : (range anchor : ℕ) → range - anchor ≡ 60001 → expiredAt (record { 0 = range }) (record { 0 = anchor }) (millisOf (record { 0 = 60 })) ≡ true
 old range anchor e = rw e
@@ -180,8 +180,8 @@ module _ (tables area : List ℕ) (t : AnchorsCacheTransaction) (zero-open : ope
   unfolding bookRefusal
   accepts b p q = rw (le-leb areaBytes (length area) (refusal-zero (length area) tables t asked .0), p, q)
 
-  in-book : (numbersInBook area steps (begin v) ≡ 0 ∷ 0 ∷ 0 ∷ []) × (finish (bookAfter area steps (begin v)) ≡ v)
-  unfolding numbersInBook numberInBook bookAfter nextBook
+  in-book : (bookNumbers area (map call steps) (begin v) ≡ 0 ∷ 0 ∷ 0 ∷ []) × (finish (entered area (map call steps) (begin v)) ≡ v)
+  unfolding bookNumbers entered enter popTimes
   in-book =
       let places = placesIn (length area) in
       let c = valid-parts places tables t (refusal-zero (length area) tables t asked .1) in
@@ -193,8 +193,8 @@ module _ (tables area : List ℕ) (t : AnchorsCacheTransaction) (zero-open : ope
       (rw (e, f, g), rw (e, f, g))
 
   back-to-opening : let u = openCall (length area) tables t .state in
-      let d = closeCall (length area) tables (windowAfter tables area steps u) in
-      (numbersOnWindow tables area steps u ≡ 0 ∷ 0 ∷ 0 ∷ []) × (d .number ≡ 0) × (view tables area (d .state .cache) ≡ view tables area (t .cache))
+      let d = closeCall (length area) tables (performed tables area (map call steps) u) in
+      (numbers tables area (map call steps) u ≡ 0 ∷ 0 ∷ 0 ∷ []) × (d .number ≡ 0) × (view tables area (d .state .cache) ≡ view tables area (t .cache))
   back-to-opening =
       let d = demand-three tables area t zero-open steps in
       (d .every-number-is-the-book's ∙ in-book .0, d .the-close-answers-0, d .the-cache-is-the-book's ∙ in-book .1)

@@ -14,16 +14,17 @@ use Rattle.ext_types.specs.declared.Seconds.{Seconds}
 use Rattle.shard_ident.specs.declared.ShardIdent.{ShardIdent}
 use Rattle.messages_buffer.specs.Fullness.{firstNo}
 use Rattle.anchors_cache.specs.declared.AnchorsCacheTransaction.{AnchorsCacheTransaction}
 use Rattle.range_reader.specs.declared.RangeRead.{RangeRead}
 use Rattle.range_reader.specs.declared.ReadExternals.{ReadExternals}
 use Rattle.range_reader.specs.declared.ExternalsRangeReaderState.{ExternalsRangeReaderState}
 use Rattle.range_reader.specs.declared.ProcessedTo.{ProcessedTo}
 use Rattle.range_reader.specs.declared.ReadNextExternalsMode.{ReadNextExternalsMode}
 use Rattle.range_reader.specs.Rules.{Outcome}
 use Rattle.range_reader.specs.Calls.{askedNumber, refusedAnswer, doneResult, rangeRead, ReadResult, readCall}
 use Rattle.range_reader.proofs.Numbers.{first-zero, first-alone, passed}
-use Rattle.range_book.proofs.Laws.{AtMost, steps-kept, every-count-is-at-most-1024}
-use Rattle.range_book.proofs.Entries.{steps-fit}
+use Rattle.range_reader.specs.Ready.{AtMost}
+use Rattle.range_reader.proofs.Kept.{steps-kept, every-count-is-at-most-1024}
+use Rattle.range_reader.proofs.Entries.{steps-fit}
 
 pub record Bounded (room : ℕ) (q : ReadExternals) : Type 0 where
   pub counts : AtMost 1024 (q .counts)

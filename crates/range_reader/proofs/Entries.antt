@@ -20,19 +20,19 @@ use Rattle.messages_buffer.specs.Fullness.{noPartition, rangeFull, firstNo}
 use Rattle.anchors_cache.specs.declared.AnchorsCacheTransaction.{AnchorsCacheTransaction}
 use Rattle.anchors_cache.specs.Rules.{Anchor}
 use Rattle.anchors_cache.specs.Tables.{view}
 use Rattle.range_reader.specs.declared.Context.{Context}
 use Rattle.range_reader.specs.declared.Walk.{Walk}
 use Rattle.range_reader.specs.declared.RangeRead.{RangeRead}
 use Rattle.range_reader.specs.declared.ProcessedTo.{ProcessedTo}
 use Rattle.range_reader.specs.declared.ReadNextExternalsMode.{ReadNextExternalsMode}
 use Rattle.range_reader.specs.declared.ExternalsRangeReaderState.{ExternalsRangeReaderState}
 use Rattle.range_reader.specs.declared.Verdict.{Verdict}
 use Rattle.range_reader.specs.declared.Verdict.the-variants.{Keep, Buffer, Refuse}
 use Rattle.range_reader.specs.Rules.{Outcome, silent, followed, advanced, ends, stopped, noProcessed, more, refusedWith, readOne, buffered, bufferOne, after, verdictOn, ourRead, messageRead, messagesRead, popped, looked, expiredOver, expired, isWhole, finished, unread, anchorRead, nextRead, anchorsRead}
 use Rattle.range_reader.specs.Calls.{askedNumber, contextOf, entryOf, refusedAnswer, doneResult, rangeRead, readCall}
 use Rattle.range_reader.proofs.Counts.{pick-both, judge-buffer}
 use Rattle.range_reader.proofs.Numbers.{first-zero, passed}
-use Rattle.range_book.proofs.Laws.{steps-kept}
+use Rattle.range_reader.proofs.Kept.{steps-kept}
 
 unfoldable pub sumOf : List ℕ → ℕ
 sumOf [] = 0
