@@ -7,20 +7,20 @@ use lib.ListN.{length}
 use borrow.Author.Tests.{lt-ltb, le-ltb}
 use Rattle.rows.proofs.Laws.{appended-length}
 use Rattle.anchors_cache.specs.declared.AnchorsCache.{AnchorsCache}
-use Rattle.anchors_cache.specs.Rules.{Row}
-use Rattle.anchors_cache.specs.Tables.{anchorRow, infoRow}
+use Rattle.cache_rules.specs.Rules.{Row, maxAnchors, areaBytes}
+use Rattle.anchors_cache.specs.Tables.{anchorRow, infoRow, historyBytes, tablesBytes}
 use Rattle.anchors_cache.specs.Windows.{infoFor, usedBy, inHistory, historyAdded, inCache, anchorAdded, messagesAdded, addedCache, addedTables, addedArea, Sound, Room}
 
 -- what the second half asks of the first
 pub half-asks : (tables area : List ℕ) (c : AnchorsCache) (a : Row) (messages : List ℕ) → Sound tables area c → Room tables c (a .ours) messages → 0 < a .ours
     → (d : AnchorsCache) (used : ℕ) (t irow row : List ℕ) → d ≡ inHistory c → used ≡ usedBy tables c → length irow ≡ 52 → t ≡ historyAdded irow c tables → length row ≡ 50
-    → (14912 ≤ length t) × (33792 ≤ length area) × (length row ≡ 50) × (d .first + d .len ≤ 32) × (d .len < 32) × (33 * (d .base + used) ≤ length area) × (33 * used + length messages ≤ 33792)
+    → (tablesBytes ≤ length t) × (areaBytes ≤ length area) × (length row ≡ 50) × (d .first + d .len ≤ maxAnchors) × (d .len < maxAnchors) × (33 * (d .base + used) ≤ length area) × (33 * used + length messages ≤ areaBytes)
 unfolding inHistory
 half-asks tables area c a messages s r o d used t irow row de ue w te v =
     let tall = s .tall in
     let h = s .in-history in
     let f = r .entries in
-    let l = appended-length tables 0 (52 * c .«history_first») (52 * c .«history_len») 13312 irow (omega arith) (omega arith) (omega arith) in
+    let l = appended-length tables 0 (52 * c .«history_first») (52 * c .«history_len») historyBytes irow (omega arith) (omega arith) (omega arith) in
     let n : length t ≡ length tables = ap length te ∙ l in
     let b = r .bytes o in
     let g = s .in-area in

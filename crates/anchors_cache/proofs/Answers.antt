@@ -8,7 +8,7 @@ use Rattle.anchors_cache.specs.declared.AnchorInfo.{AnchorInfo}
 use Rattle.anchors_cache.specs.declared.InfoAnswer.{InfoAnswer}
 use Rattle.anchors_cache.specs.declared.FoundInfo.the-variants as info
 use Rattle.anchors_cache.specs.declared.FoundId.the-variants as id
-use Rattle.anchors_cache.specs.Rules.{Info, Row, total}
+use Rattle.cache_rules.specs.Rules.{Info, Row, total}
 use Rattle.anchors_cache.specs.Calls.{shownAnchor, anchorFound, anchorAuthor, infoAnswer, idAnswer, shownInfo, anchorInfo}
 
 -- the anchor at index 0 is the front, and its messages stand at the base

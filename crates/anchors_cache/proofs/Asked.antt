@@ -13,10 +13,10 @@ use Rattle.rows.proofs.Laws.{and-true}
 use Rattle.anchors_cache.specs.declared.AnchorsCache.{AnchorsCache}
 use Rattle.anchors_cache.specs.declared.AnchorsCacheTransaction.{AnchorsCacheTransaction}
 use Rattle.anchors_cache.specs.declared.Total.the-variants.{Messages, Unsound}
-use Rattle.anchors_cache.specs.Rules.{Row, soundRow, soundFrom, total, lastOf, aboveLast, sameBool, rightSize, room, pendingUpTo, ask, maxAnchors, maxAnchorMessages, maxMessages, maxHistory}
+use Rattle.cache_rules.specs.Rules.{Row, soundRow, soundFrom, total, lastOf, aboveLast, sameBool, rightSize, room, pendingUpTo, ask, maxAnchors, maxAnchorMessages, maxMessages, maxHistory, areaBytes}
 use Rattle.anchors_cache.specs.Tables.{tablesBytes, anchors, anchorAt, anchorsOf}
-use Rattle.anchors_cache.specs.Windows.{usedBy, Sound, Room}
-use Rattle.anchors_cache.specs.Calls.{sameWindow, soundTotal, soundAnchor, cachedAnchor, validCache, valid, refusal, refusalAt, refusalSeen, addNumber, onZero, areaBytes, placesIn, anyPlaces}
+use Rattle.anchors_cache.specs.Windows.{usedBy, Sound, Room, anyPlaces}
+use Rattle.anchors_cache.specs.Calls.{sameWindow, soundTotal, soundAnchor, cachedAnchor, validCache, valid, refusal, refusalAt, refusalSeen, addNumber, onZero, placesIn}
 use Rattle.anchors_cache.proofs.Laws.{anchors-cons, anchors-none}
 
 -- ---- question 5 of the anchors, in one pass
@@ -236,12 +236,12 @@ six-yes true true false d e = absurd (omega arith)
 six-yes true true true true e = absurd (omega arith)
 six-yes true true true false e = (refl, refl, refl, refl)
 
-pub size-of : (ours k : ℕ) → rightSize ours k ≡ true → (k ≤ 16896) × (33 * (k / 33) ≡ k) × (ours ≤ k / 33)
+pub size-of : (ours k : ℕ) → rightSize ours k ≡ true → (k ≤ (33 * maxAnchorMessages)) × (33 * (k / 33) ≡ k) × (ours ≤ k / 33)
 unfolding rightSize
 size-of ours k e =
-    let p1 = and-true (leb k 16896) (leb k (33 * (k / 33)) && leb ours (k / 33)) e in
+    let p1 = and-true (leb k (33 * maxAnchorMessages)) (leb k (33 * (k / 33)) && leb ours (k / 33)) e in
     let p2 = and-true (leb k (33 * (k / 33))) (leb ours (k / 33)) (p1 .1) in
-    let a : k ≤ 16896 = leb-true _ _ (p1 .0) in
+    let a : k ≤ (33 * maxAnchorMessages) = leb-true _ _ (p1 .0) in
     let d : k ≤ 33 * (k / 33) = leb-true _ _ (p2 .0) in
     (a, omega (arith, mul-div-le k 33), leb-true _ _ (p2 .1))
 

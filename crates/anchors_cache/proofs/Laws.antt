@@ -3,21 +3,23 @@ use Prim.Native.Nat.{ℕ, zero, suc, _+_, _-_, _*_, _≤_, _<_}
 use mathlib.Core.Path.{_≡_, refl, sym, ap, subst, _∙_}
 use mathlib.Core.Bool.{Bool, true, false}
 use mathlib.Core.List.{List, [], _∷_, _++_, map}
-use mathlib.Core.Option.{Option, none, some}
+use mathlib.Core.Option.{some}
 use mathlib.Core.Logic.{⊎-elim}
 use native.Mathlib.Nat.{eq-zero-or-pos}
 use native.Mathlib.Omega.{arith}
-use lib.Dec.{ltb, leb}
+use lib.Dec.{ltb}
 use lib.ListN.{length, take, drop, replicate, length-map, length-append}
 use lib.Seq.{drop-drop, sets, length-sets}
-use borrow.Author.Tests.{lt-ltb, le-ltb, leb-true, leb-false}
+use borrow.Author.Tests.{lt-ltb, le-ltb}
 use Rattle.rows.specs.Rows.{pick, part, le, word, rows, numAt, written, stays, appended, appendAnswer, appendedIfFits}
 use Rattle.rows.proofs.Laws.{rows-cons, rows-back, rows-length, rows-drop, rows-take, part-length, sets-append, length-le, sets-all, num-in, written-in, append-some, appended-some, fits-yes}
 use Rattle.rows.specs.declared.Appended.{Appended}
 use Rattle.rows.specs.declared.Appended.the-variants.{Behind, Moved}
 use Rattle.anchors_cache.specs.declared.AnchorsCache.{AnchorsCache}
-use Rattle.anchors_cache.specs.Rules.{Info, Row, dropStale, keepFront, trimBack, trimHistory, infoTime, lastOf, lastNotAbove, infoAtCt, orElse, total}
-use Rattle.anchors_cache.specs.Tables.{historyBytes, anchorRow, infoRow, anchorOf, infoOf, anchors, infos, anchorAt, infoAt}
+use Rattle.cache_rules.proofs.ByCall.{trim-snoc}
+use Rattle.cache_rules.proofs.Lists.{trim-prefix, stale-le, trim-le, history-snoc, history-le, history-prefix, last-snoc}
+use Rattle.cache_rules.specs.Rules.{rowOf, Row, dropStale, trimBack, trimHistory, lastOf, total, authorBytes}
+use Rattle.anchors_cache.specs.Tables.{withMessages, historyBytes, anchorRow, infoRow, anchorOf, infoOf, anchors, infos, anchorAt, infoAt}
 use Rattle.anchors_cache.specs.Windows.{rowTime, infoFor, poppedBy, poppedCache, poppedTimes, Lies}
 use Rattle.anchors_cache.specs.Calls.{placedAt}
 
@@ -128,6 +130,12 @@ pub total-none : (first k : ℕ) (l : List ℕ) → k ≤ 0 → total (anchors f
 unfolding total
 total-none first k l p = rw (anchors-none first k l p)
 
+-- ---- the messages of a window
+pub rows-of-messages : (bytes : List ℕ) (l : List Row) → map rowOf (withMessages bytes l) ≡ l
+unfolding withMessages
+rows-of-messages bytes [] = refl
+rows-of-messages bytes (a ∷ l) = rw (rows-length 33 (a .count) bytes, rows-of-messages (drop (33 * a .count) bytes) l)
+
 -- ---- stale history: a turn of the loop, and its two ends
 module _ (first k ct : ℕ) (l : List ℕ) where
   stale-step : 1 < k → dropStale ct (infos first k l) ≡ pick (ltb (infoAt first l .time) ct) (dropStale ct (infos (first + 1) (k - 1) l)) (infos first k l)
@@ -145,16 +153,6 @@ unfolding dropStale infos rows
 stale-few first zero ct l p = refl
 stale-few first (suc zero) ct l p = refl
 stale-few first (suc (suc k)) ct l p = absurd (omega arith)
-
-pub stale-le : (ct : ℕ) (l : List Info) → length (dropStale ct l) ≤ length l
-unfolding dropStale
-stale-le ct [] = omega arith
-stale-le ct (x ∷ []) = omega arith
-stale-le ct (x ∷ y ∷ l) =
-    elim (ltb (x .time) ct) as (λ b. length (pick b (dropStale ct (y ∷ l)) (x ∷ y ∷ l)) ≤ length (x ∷ y ∷ l)) [
-      | true ↦ omega (arith, stale-le ct (y ∷ l))
-      | false ↦ omega arith
-    ]
 
 pub fresh-le : (ct first len : ℕ) (l : List ℕ) → length (dropStale ct (infos first len l)) ≤ len
 fresh-le ct first len l = omega (arith, stale-le ct (infos first len l), infos-length first len l)
@@ -193,50 +191,6 @@ unfolding poppedTimes
 times-empty zero tables c p = refl
 times-empty (suc n) tables c p = ap (poppedTimes n tables) (popped-empty tables c p) ∙ times-empty n tables c p
 
--- ---- trimming from the back
-module _ {A : Type 0} (time : A → ℕ) (ct : ℕ) where
-  keep-snoc : (y x : A) (l : List A) → keepFront time ct y (l ++ (x ∷ [])) ≡ y ∷ (l ++ (x ∷ []))
-  keep-snoc y x [] = refl
-  keep-snoc y x (z ∷ l) = refl
-
-  keep-pick : (b : Bool) (y x : A) (l : List A) → keepFront time ct y (pick b (trimBack time ct l) (l ++ (x ∷ []))) ≡ pick b (trimBack time ct (y ∷ l)) (y ∷ (l ++ (x ∷ [])))
-  unfolding trimBack
-  keep-pick true y x l = refl
-  keep-pick false y x l = keep-snoc y x l
-
-  -- the last element decides
-  pub trim-snoc : (l : List A) (x : A) → trimBack time ct (l ++ (x ∷ [])) ≡ pick (ltb ct (time x)) (trimBack time ct l) (l ++ (x ∷ []))
-  unfolding trimBack
-  trim-snoc [] x = refl
-  trim-snoc (y ∷ l) x = ap (keepFront time ct y) (trim-snoc l x) ∙ keep-pick (ltb ct (time x)) y x l
-
-  pub trim-le : (l : List A) → length (trimBack time ct l) ≤ length l
-  unfolding trimBack
-  trim-le [] = omega arith
-  trim-le (x ∷ l) = go (trimBack time ct l) (trim-le l)
-    where
-      one : (b : Bool) → length (pick b [] (x ∷ [])) ≤ length (x ∷ l)
-      one true = omega arith
-      one false = omega arith
-
-      go : (m : List A) → length m ≤ length l → length (keepFront time ct x m) ≤ length (x ∷ l)
-      go [] p = one (ltb ct (time x))
-      go (y ∷ m) p = omega arith
-
-  -- what stays is the beginning of the list
-  pub trim-prefix : (l : List A) → take (length (trimBack time ct l)) l ≡ trimBack time ct l
-  unfolding trimBack
-  trim-prefix [] = refl
-  trim-prefix (x ∷ l) = go (trimBack time ct l) (trim-prefix l)
-    where
-      one : (b : Bool) → take (length (pick b [] (x ∷ []))) (x ∷ l) ≡ pick b [] (x ∷ [])
-      one true = refl
-      one false = refl
-
-      go : (m : List A) → take (length m) l ≡ m → take (length (keepFront time ct x m)) (x ∷ l) ≡ keepFront time ct x m
-      go [] p = one (ltb ct (time x))
-      go (y ∷ m) p = ap (λ (k : List A). x ∷ k) p
-
 -- a turn of the loop over the anchors
 module _ (ct first k : ℕ) (l : List ℕ) where
   kept-step : 0 < k → trimBack rowTime ct (anchors first k l) ≡ pick (ltb ct (anchorAt (first + (k - 1)) l .time)) (trimBack rowTime ct (anchors first (k - 1) l)) (anchors first k l)
@@ -257,26 +211,11 @@ kept-le ct first n l = omega (arith, trim-le rowTime ct (anchors first n l), anc
 
 -- the history, whose front stays
 module _ (ct : ℕ) where
-  cons-pick : (b : Bool) (y x : Info) (l : List Info) → y ∷ pick b (trimBack infoTime ct l) (l ++ (x ∷ [])) ≡ pick b (trimHistory ct (y ∷ l)) (y ∷ (l ++ (x ∷ [])))
-  unfolding trimHistory
-  cons-pick true y x l = refl
-  cons-pick false y x l = refl
-
-  history-snoc : (l : List Info) (x : Info) → 0 < length l → trimHistory ct (l ++ (x ∷ [])) ≡ pick (ltb ct (infoTime x)) (trimHistory ct l) (l ++ (x ∷ []))
-  unfolding trimHistory
-  history-snoc [] x p = absurd (omega arith)
-  history-snoc (y ∷ l) x p = ap (λ (m : List Info). y ∷ m) (trim-snoc infoTime ct l x) ∙ cons-pick (ltb ct (infoTime x)) y x l
-
-  pub history-le : (l : List Info) → length (trimHistory ct l) ≤ length l
-  unfolding trimHistory
-  history-le [] = omega arith
-  history-le (x ∷ l) = omega (arith, trim-le infoTime ct l)
-
   module _ (first k : ℕ) (l : List ℕ) where
     history-step : 1 < k → trimHistory ct (infos first k l) ≡ pick (ltb ct (infoAt (first + (k - 1)) l .time)) (trimHistory ct (infos first (k - 1) l)) (infos first k l)
     history-step p =
         let e = infos-length first (k - 1) l in
-        rw (infos-snoc first k l (omega arith)) (history-snoc (infos first (k - 1) l) (infoAt (first + (k - 1)) l) (omega arith))
+        rw (infos-snoc first k l (omega arith)) (history-snoc ct (infos first (k - 1) l) (infoAt (first + (k - 1)) l) (omega arith))
 
     pub history-more : 1 < k → ct < infoAt (first + (k - 1)) l .time → trimHistory ct (infos first k l) ≡ trimHistory ct (infos first (k - 1) l)
     history-more p q = history-step p ∙ rw (lt-ltb _ _ q)
@@ -293,70 +232,17 @@ module _ (ct : ℕ) where
 pub history-kept-le : (ct first n : ℕ) (l : List ℕ) → length (trimHistory ct (infos first n l)) ≤ n
 history-kept-le ct first n l = omega (arith, history-le ct (infos first n l), infos-length first n l)
 
-history-prefix : (ct : ℕ) (l : List Info) → take (length (trimHistory ct l)) l ≡ trimHistory ct l
-unfolding trimHistory
-history-prefix ct [] = refl
-history-prefix ct (x ∷ l) = ap (λ (m : List Info). x ∷ m) (trim-prefix infoTime ct l)
-
--- the windows that a trim leaves
 pub kept-window : (ct first n : ℕ) (l : List ℕ) → anchors first (length (trimBack rowTime ct (anchors first n l))) l ≡ trimBack rowTime ct (anchors first n l)
 kept-window ct first n l = sym (anchors-take first _ n l (kept-le ct first n l)) ∙ trim-prefix rowTime ct (anchors first n l)
 
 pub kept-history : (ct first n : ℕ) (l : List ℕ) → infos first (length (trimHistory ct (infos first n l))) l ≡ trimHistory ct (infos first n l)
 kept-history ct first n l = sym (infos-take first _ n l (history-kept-le ct first n l)) ∙ history-prefix ct (infos first n l)
 
--- ---- the last of a list
-pub last-snoc : {A : Type 0} (l : List A) (x : A) → lastOf (l ++ (x ∷ [])) ≡ some x
-unfolding lastOf
-last-snoc [] x = refl
-last-snoc (y ∷ []) x = refl
-last-snoc (y ∷ z ∷ l) x = last-snoc (z ∷ l) x
-
 pub last-info : (first n : ℕ) (l : List ℕ) → 0 < n → lastOf (infos first n l) ≡ some (infoAt (first + (n - 1)) l)
 last-info first n l p = rw (infos-snoc first n l p) (last-snoc (infos first (n - 1) l) (infoAt (first + (n - 1)) l))
 
 pub last-anchor : (first n : ℕ) (l : List ℕ) → 0 < n → lastOf (anchors first n l) ≡ some (anchorAt (first + (n - 1)) l)
 last-anchor first n l p = rw (anchors-snoc first n l p) (last-snoc (anchors first (n - 1) l) (anchorAt (first + (n - 1)) l))
-
--- the entry that `last_imported_anchor_info_at_ct` answers is the last that a trim leaves
-pub last-some : {A : Type 0} (y : A) (l : List A) (o : Option A) → orElse (lastOf (y ∷ l)) o ≡ lastOf (y ∷ l)
-unfolding lastOf
-last-some y [] o = refl
-last-some y (z ∷ l) o = last-some z l o
-
-module _ (ct : ℕ) where
-  not-above : {A : Type 0} (t : ℕ) (x y : A) → pick (ltb ct t) y x ≡ pick (leb t ct) x y
-  not-above t x y = go (leb t ct) refl
-    where
-      go : (b : Bool) → leb t ct ≡ b → pick (ltb ct t) y x ≡ pick b x y
-      go true e = rw (le-ltb ct t (leb-true t ct e))
-      go false e = rw (lt-ltb ct t (leb-false t ct e))
-
-  last-kept : (l : List Info) → lastNotAbove ct l ≡ lastOf (trimBack infoTime ct l)
-  unfolding lastNotAbove trimBack lastOf
-  last-kept [] = refl
-  last-kept (x ∷ l) = ap (λ (o : Option Info). orElse o (pick (leb (x .time) ct) (some x) none)) (last-kept l) ∙ go (trimBack infoTime ct l)
-    where
-      one : (b : Bool) → pick {A = Option Info} b none (some x) ≡ lastOf (pick b [] (x ∷ []))
-      one true = refl
-      one false = refl
-
-      go : (m : List Info) → orElse (lastOf m) (pick (leb (x .time) ct) (some x) none) ≡ lastOf (keepFront infoTime ct x m)
-      go [] = sym (not-above (x .time) (some x) none) ∙ one (ltb ct (x .time))
-      go (y ∷ m) = last-some y m _
-
-  pub at-ct : (l : List Info) → lastOf (trimHistory ct l) ≡ infoAtCt ct l
-  unfolding trimHistory infoAtCt lastNotAbove lastOf
-  at-ct [] = refl
-  at-ct (x ∷ l) = go (trimBack infoTime ct l) ∙ ap (λ (o : Option Info). orElse (orElse o (pick (leb (x .time) ct) (some x) none)) (some x)) (sym (last-kept l))
-    where
-      one : (b : Bool) → some x ≡ orElse (pick b (some x) none) (some x)
-      one true = refl
-      one false = refl
-
-      go : (m : List Info) → lastOf (x ∷ m) ≡ orElse (orElse (lastOf m) (pick (leb (x .time) ct) (some x) none)) (some x)
-      go [] = one (leb (x .time) ct)
-      go (y ∷ m) = rw (last-some y m (pick (leb (x .time) ct) (some x) none), last-some y m (some x))
 
 -- ---- rows read: a number, or the author, of a row that lies in the table
 pub row-num : (l : List ℕ) (at w a k : ℕ) → at + w ≤ length l → a + k ≤ w → numAt k a (take (at + w - at) (drop at l)) ≡ word (part a k (part at w l))
@@ -365,11 +251,11 @@ row-num l at w a k p q =
     let n : length (part at w l) ≡ w = part-length l at w p in
     rw e (num-in k a (part at w l) (omega arith))
 
-pub author-copied : (l : List ℕ) (at : ℕ) → at + 32 ≤ length l → written 0 (take (at + 32 - at) (drop at l)) (replicate 32 0) ≡ part at 32 l
+pub author-copied : (l : List ℕ) (at : ℕ) → at + authorBytes ≤ length l → written 0 (take (at + authorBytes - at) (drop at l)) (replicate authorBytes 0) ≡ part at authorBytes l
 author-copied l at p =
-    let e : at + 32 - at ≡ 32 = omega arith in
-    let n : length (part at 32 l) ≡ 32 = part-length l at 32 p in
-    rw e (written-in 0 (part at 32 l) (replicate 32 0) (omega arith) ∙ sets-all (replicate 32 0) (part at 32 l) n)
+    let e : at + authorBytes - at ≡ authorBytes = omega arith in
+    let n : length (part at authorBytes l) ≡ authorBytes = part-length l at authorBytes p in
+    rw e (written-in 0 (part at authorBytes l) (replicate authorBytes 0) (omega arith) ∙ sets-all (replicate authorBytes 0) (part at authorBytes l) n)
 
 -- ---- a window of a table after an append that fits
 module _ (start from n k cap len : ℕ) (lies : start + cap ≤ len) (held : from + n ≤ cap) (space : n + k ≤ cap) where
@@ -399,7 +285,7 @@ five-stores m l e p q r s t u v w x y a b c d f =
     let five = store m t y (sets (sets (sets (sets l p u) q v) r w) s x) (four .1) f in
     rw (one .0, two .0, three .0, four .0, five .0)
 
-module _ (a : Row) (full : length (a .author) ≡ 32) where
+module _ (a : Row) (full : length (a .author) ≡ authorBytes) where
   pub length-info : length (infoRow (infoFor a)) ≡ 52
   unfolding infoRow
   length-info = simp (length-append, length-le, full) refl

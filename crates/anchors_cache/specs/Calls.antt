@@ -1,5 +1,6 @@
--- The questions of the cache's calls, and what each call answers, for every argument. n is the length of the message area.
-use Prim.Native.Nat.{ℕ, zero, suc, _+_, _*_, _/_}
+-- The questions of the cache's calls, and what each call answers, for every argument. n is the length of the message
+-- area.
+use Prim.Native.Nat.{ℕ, zero, suc, _+_, _/_}
 use mathlib.Core.Bool.{Bool, true, false, not, _&&_}
 use mathlib.Core.List.{List, [], _∷_}
 use mathlib.Core.Option.{Option, none, some}
@@ -30,9 +31,9 @@ use Rattle.anchors_cache.specs.declared.Total.the-variants.{Messages, Un
 use Rattle.anchors_cache.specs.declared.FoundAnchor.the-variants as anchor
 use Rattle.anchors_cache.specs.declared.FoundInfo.the-variants as info
 use Rattle.anchors_cache.specs.declared.FoundId.the-variants as id
-use Rattle.anchors_cache.specs.Rules.{Info, Row, lastOf, infoAtCt, soundRow, soundFrom, total, sameBool, pendingUpTo, rightSize, aboveLast, room, ask, maxAnchors, maxAnchorMessages, maxHistory, maxMessages}
+use Rattle.cache_rules.specs.Rules.{Info, Row, lastOf, infoAtCt, soundRow, soundFrom, total, sameBool, pendingUpTo, rightSize, aboveLast, room, ask, maxAnchors, maxAnchorMessages, maxHistory, maxMessages, authorBytes, areaBytes}
 use Rattle.anchors_cache.specs.Tables.{tablesBytes, anchorsOf, historyOf, anchorAt, infoAt}
-use Rattle.anchors_cache.specs.Windows.{poppedCache, poppedTimes, trimmedCache, noCache, addedCache, usedBy}
+use Rattle.anchors_cache.specs.Windows.{poppedCache, poppedTimes, trimmedCache, noCache, addedCache, usedBy, anyPlaces}
 
 -- ---- questions 1, 5 and 9
 -- one anchor as question 5 wants it, on the struct that the code holds
@@ -44,16 +45,9 @@ unfoldable pub soundTotal : ℕ → ℕ → List Row → Total
 soundTotal low sum [] = Messages sum
 soundTotal low sum (a ∷ l) = pick (soundRow low a) (soundTotal (a .id + 1) (sum + a .count) l) Unsound
 
--- the smallest message area, and how many messages an area of n bytes holds
-abbrev pub areaBytes : ℕ
-areaBytes = 33 * maxMessages
-
+-- how many messages an area of n bytes holds
 abbrev pub placesIn : ℕ → ℕ
 placesIn n = n / 33
-
--- calls that are lent no area: as many as one can hold
-abbrev pub anyPlaces : ℕ
-anyPlaces = 558992244657865200
 
 -- question 5 of a window: every named place is inside its table or the message area, and the cache is sound
 unfoldable pub validCache : ℕ → List ℕ → AnchorsCache → Bool
@@ -99,7 +93,7 @@ withCache t c = record { cache = c; undo = t .undo; active = t .active; committe
 
 -- ---- values of the answers
 abbrev pub noAuthor : List ℕ
-noAuthor = replicate 32 0
+noAuthor = replicate authorBytes 0
 
 abbrev pub timeOf : ℕ → ChainTime
 timeOf t = record { 0 = t }

@@ -1,4 +1,3 @@
-pub mod Rules
 pub mod Tables
 pub mod Windows
 pub mod Calls

@@ -1,10 +1,11 @@
--- The lent tables: 256 rows of 52 bytes of history, then 32 rows of 50 bytes of cached anchors. The messages stand in the lent message area, 33 bytes each.
+-- The lent tables: 256 rows of 52 bytes of history, then 32 rows of 50 bytes of cached anchors. The messages stand in
+-- the lent message area, 33 bytes each.
 use Prim.Native.Nat.{ℕ, _+_, _*_}
 use mathlib.Core.List.{List, [], _∷_, _++_, map}
 use lib.ListN.{drop}
 use Rattle.rows.specs.Rows.{part, le, word, rows}
 use Rattle.anchors_cache.specs.declared.AnchorsCache.{AnchorsCache}
-use Rattle.anchors_cache.specs.Rules.{Info, Anchor, Cache, Row, withRow, maxAnchors, maxHistory}
+use Rattle.cache_rules.specs.Rules.{Info, Anchor, Cache, Row, withRow, maxAnchors, maxHistory, authorBytes}
 
 -- where the rows of the anchors begin, and where they end
 abbrev pub historyBytes : ℕ
@@ -25,10 +26,10 @@ infoRow i = le 4 (i .id) ++ (le 8 (i .time) ++ (le 4 (i .all) ++ (le 4 (i .ours)
 
 -- what a row says
 abbrev pub anchorOf : List ℕ → Row
-anchorOf row = record { id = word (part 0 4 row); time = word (part 4 8 row); author = part 12 32 row; ours = word (part 44 4 row); count = word (part 48 2 row) }
+anchorOf row = record { id = word (part 0 4 row); time = word (part 4 8 row); author = part 12 authorBytes row; ours = word (part 44 4 row); count = word (part 48 2 row) }
 
 abbrev pub infoOf : List ℕ → Info
-infoOf row = record { id = word (part 0 4 row); time = word (part 4 8 row); all = word (part 12 4 row); ours = word (part 16 4 row); author = part 20 32 row }
+infoOf row = record { id = word (part 0 4 row); time = word (part 4 8 row); all = word (part 12 4 row); ours = word (part 16 4 row); author = part 20 authorBytes row }
 
 -- one anchor, or entry, of the tables
 abbrev pub anchorAt : ℕ → List ℕ → Row

@@ -1,5 +1,5 @@
 -- What a pop, a trim and an add do to the window, the tables and the message area.
-use Prim.Native.Nat.{ℕ, zero, suc, _+_, _-_, _*_, _/_, _≤_, _<_}
+use Prim.Native.Nat.{_^_, ℕ, zero, suc, _+_, _-_, _*_, _/_, _≤_, _<_}
 use mathlib.Core.Path.{_≡_}
 use mathlib.Core.Bool.{true, false}
 use mathlib.Core.List.{List, [], _∷_}
@@ -7,8 +7,12 @@ use lib.Dec.{ltb}
 use lib.ListN.{length}
 use Rattle.rows.specs.Rows.{pick, stays, appended}
 use Rattle.anchors_cache.specs.declared.AnchorsCache.{AnchorsCache}
-use Rattle.anchors_cache.specs.Rules.{Info, Row, dropStale, trimBack, trimHistory, total, maxAnchors, maxAnchorMessages, maxMessages, maxHistory}
+use Rattle.cache_rules.specs.Rules.{Info, Row, dropStale, trimBack, trimHistory, total, maxAnchors, maxAnchorMessages, maxHistory, areaBytes}
 use Rattle.anchors_cache.specs.Tables.{historyBytes, anchorBytes, tablesBytes, anchorRow, infoRow, anchorsOf, historyOf}
+
+-- as many messages as any area can hold: what a call asks that is lent none
+abbrev pub anyPlaces : ℕ
+anyPlaces = 2 ^ 64 / 33
 
 abbrev pub rowTime : Row → ℕ
 rowTime a = a .time
@@ -108,7 +112,7 @@ addedArea a messages tables c area = pick (ltb 0 (a .ours)) (messagesAdded messa
 -- what question 5 says of a window, as far as an add leans on it
 pub record Sound (tables area : List ℕ) (c : AnchorsCache) : Type 0 where
   pub tall : tablesBytes ≤ length tables
-  pub broad : 33 * maxMessages ≤ length area
+  pub broad : areaBytes ≤ length area
   pub in-anchors : c .first + c .len ≤ maxAnchors
   pub in-history : c .«history_first» + c .«history_len» ≤ maxHistory
   pub in-area : 33 * (c .base + usedBy tables c) ≤ length area
@@ -118,7 +122,7 @@ pub record Lies (tables : List ℕ) (c : AnchorsCache) : Type 0 where
   pub tall : tablesBytes ≤ length tables
   pub in-anchors : c .first + c .len ≤ maxAnchors
   pub in-history : c .«history_first» + c .«history_len» ≤ maxHistory
-  pub in-memory : c .base + usedBy tables c ≤ 558992244657865200
+  pub in-memory : c .base + usedBy tables c ≤ anyPlaces
 
 -- what questions 6 and 8 say of an add
 pub record Room (tables : List ℕ) (c : AnchorsCache) (ours : ℕ) (messages : List ℕ) : Type 0 where
@@ -126,4 +130,4 @@ pub record Room (tables : List ℕ) (c : AnchorsCache) (ours : ℕ) (messages : 
   pub few : length messages ≤ 33 * maxAnchorMessages
   pub entries : c .«history_len» < maxHistory
   pub anchors : 0 < ours → c .len < maxAnchors
-  pub bytes : 0 < ours → 33 * usedBy tables c + length messages ≤ 33 * maxMessages
+  pub bytes : 0 < ours → 33 * usedBy tables c + length messages ≤ areaBytes

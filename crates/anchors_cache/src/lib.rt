@@ -1,13 +1,17 @@
-// The anchors cache and its transaction. The tables and the message area are lent by the host; the cache by value is a window on them.
+// The anchors cache and its transaction. The tables and the message area are lent by the host; the cache by value is a
+// window on them.
 // Every call asks document 01's questions of what it is handed; a refused call answers the number and changes nothing.
 ghost use mathlib.Core.Path.{_≡_};
-ghost use Prim.Native.Nat.{ℕ, _+_, _*_, _/_, _<_, _≤_};
+ghost use Prim.Native.Nat.{_+_, _*_, _<_, _≤_};
 ghost use lib.ListN.{length};
 ghost use Rattle.rows.specs.Rows.{pick};
-ghost use Rattle.anchors_cache.specs.Rules.{maxHistory, maxAnchors, lastOf};
+ghost use Rattle.cache_rules.specs.Rules.{maxHistory, maxAnchors, lastOf};
 ghost use Rattle.anchors_cache.specs.Tables.{tablesBytes, anchors, infos};
-ghost use Rattle.anchors_cache.specs.Windows.{addedTables, addedArea};
-ghost use Rattle.anchors_cache.specs.Calls.{anyPlaces, sameWindow, onZero, rowFor, addNumber, addCall, refusal, rowAt, infoRowAt, popCall, popsCall, trimCall, clearCall, openCall, commitCall, rollbackCall, closeCall, lastInfoCall, infoAtCtCall, lastIdCall, getCall, pendingCall, pendingInRangeCall, shownInfo, shownAnchor, closedTransaction};
+ghost use Rattle.anchors_cache.specs.Windows.{addedTables, addedArea, anyPlaces};
+ghost use Rattle.anchors_cache.specs.Calls.{sameWindow, onZero, rowFor, addNumber, addCall, refusal, rowAt, infoRowAt, popCall, popsCall, trimCall, clearCall, openCall, commitCall, rollbackCall, closeCall, lastInfoCall, infoAtCtCall, lastIdCall, getCall, pendingCall, pendingInRangeCall, shownInfo, shownAnchor, closedTransaction};
+use cache_rules::AUTHOR_BYTES;
+use cache_rules::MAX_ANCHORS;
+use cache_rules::MAX_HISTORY;
 use ext_types::ChainTime;
 use ext_types::ExternalKey;
 
@@ -15,7 +19,15 @@ mod questions;
 mod tables;
 mod windows;
 
-// Where the cached anchors and the imported history stand in the tables, and the first cached message in the area, in rows and messages.
+// The lent tables: rows of 52 bytes of history, then rows of 50 bytes of cached anchors.
+pub const HISTORY_BYTES: usize = 52 * MAX_HISTORY;
+
+pub const ANCHOR_BYTES: usize = 50 * MAX_ANCHORS;
+
+pub const TABLES_BYTES: usize = HISTORY_BYTES + ANCHOR_BYTES;
+
+// Where the cached anchors and the imported history stand in the tables, and the first cached message in the area, in
+// rows and messages.
 #[repr(C)]
 pub struct AnchorsCache {
     pub first: usize,
@@ -40,7 +52,7 @@ pub struct AnchorsCacheTransaction {
 pub struct MempoolAnchor {
     pub id: u32,
     pub chain_time: ChainTime,
-    pub author: [u8; 32],
+    pub author: [u8; AUTHOR_BYTES],
 }
 
 // A cached anchor; its `count` messages stand in the area from `place` on, in messages.
@@ -92,27 +104,27 @@ pub struct Done {
 pub struct Popped {
     pub number: u8,
     pub front: FoundAnchor,
-    pub author: [u8; 32],
+    pub author: [u8; AUTHOR_BYTES],
     pub state: AnchorsCacheTransaction,
 }
 
 pub struct Trimmed {
     pub number: u8,
     pub last: FoundInfo,
-    pub author: [u8; 32],
+    pub author: [u8; AUTHOR_BYTES],
     pub state: AnchorsCacheTransaction,
 }
 
 pub struct AnchorAnswer {
     pub number: u8,
     pub anchor: FoundAnchor,
-    pub author: [u8; 32],
+    pub author: [u8; AUTHOR_BYTES],
 }
 
 pub struct InfoAnswer {
     pub number: u8,
     pub info: FoundInfo,
-    pub author: [u8; 32],
+    pub author: [u8; AUTHOR_BYTES],
 }
 
 pub struct IdAnswer {
@@ -179,7 +191,7 @@ pub fn check_cache(tables: &[u8], area: &[u8], t: AnchorsCacheTransaction) -> u8
 pub fn cached_row(tables: &[u8], i: usize, place: usize) -> CachedAnchor
     ensures { λ r. ⌜ r ≡ rowAt i place (now (tables .entry)) ⌝ }
 {
-    if tables::has_row(tables, i, 32) {
+    if tables::has_row(tables, i, MAX_ANCHORS) {
         return tables::anchor_at(tables, i, place);
     }
     CachedAnchor {
@@ -195,7 +207,7 @@ pub fn cached_row(tables: &[u8], i: usize, place: usize) -> CachedAnchor
 pub fn history_row(tables: &[u8], i: usize) -> AnchorInfo
     ensures { λ r. ⌜ r ≡ infoRowAt i (now (tables .entry)) ⌝ }
 {
-    if tables::has_row(tables, i, 256) {
+    if tables::has_row(tables, i, MAX_HISTORY) {
         return tables::info_at(tables, i);
     }
     AnchorInfo {
@@ -254,12 +266,12 @@ fn shown_anchor(tables: &[u8], first: usize, len: usize, base: usize, i: usize) 
         return AnchorAnswer {
             number: 0,
             anchor: FoundAnchor::Nothing,
-            author: [0u8; 32],
+            author: [0u8; AUTHOR_BYTES],
         };
     }
     let place = base + tables::total_count(tables, first, i);
     let a = tables::anchor_at(tables, first + i, place);
-    let author = tables::author_at(tables, tables::HISTORY_BYTES + 50 * (first + i) + 12);
+    let author = tables::author_at(tables, HISTORY_BYTES + 50 * (first + i) + 12);
     AnchorAnswer {
         number: 0,
         anchor: FoundAnchor::Anchor(a),
@@ -276,7 +288,7 @@ fn shown_info(tables: &[u8], first: usize, len: usize) -> InfoAnswer
         return InfoAnswer {
             number: 0,
             info: FoundInfo::Nothing,
-            author: [0u8; 32],
+            author: [0u8; AUTHOR_BYTES],
         };
     }
     let i = first + (len - 1);
@@ -298,7 +310,7 @@ pub fn pop_front(tables: &[u8], area: &[u8], t: AnchorsCacheTransaction) -> Popp
         return Popped {
             number: r,
             front: FoundAnchor::Nothing,
-            author: [0u8; 32],
+            author: [0u8; AUTHOR_BYTES],
             state: t,
         };
     }
@@ -352,7 +364,7 @@ pub fn remove_last_imported_above(
         return Trimmed {
             number: r,
             last: FoundInfo::Nothing,
-            author: [0u8; 32],
+            author: [0u8; AUTHOR_BYTES],
             state: t,
         };
     }
@@ -498,7 +510,7 @@ pub fn last_imported_anchor_info(tables: &[u8], t: AnchorsCacheTransaction) -> I
         return InfoAnswer {
             number: r,
             info: FoundInfo::Nothing,
-            author: [0u8; 32],
+            author: [0u8; AUTHOR_BYTES],
         };
     }
     let c = t.cache;
@@ -518,7 +530,7 @@ pub fn last_imported_anchor_info_at_ct(
         return InfoAnswer {
             number: r,
             info: FoundInfo::Nothing,
-            author: [0u8; 32],
+            author: [0u8; AUTHOR_BYTES],
         };
     }
     let c = t.cache;
@@ -554,7 +566,7 @@ pub fn get(tables: &[u8], t: AnchorsCacheTransaction, index: usize) -> AnchorAns
         return AnchorAnswer {
             number: r,
             anchor: FoundAnchor::Nothing,
-            author: [0u8; 32],
+            author: [0u8; AUTHOR_BYTES],
         };
     }
     let c = t.cache;

@@ -1,28 +1,23 @@
 // The questions of document 01 that the cache's calls ask: 1 and 5 to 9. The number 0 says that each is answered yes.
 ghost use mathlib.Core.Path.{_≡_};
-ghost use Prim.Native.Nat.{ℕ, _+_, _*_, _/_, _<_, _≤_};
-ghost use lib.Dec.{ltb, leb};
+ghost use Prim.Native.Nat.{_+_, _*_, _/_, _<_, _≤_};
 ghost use lib.ListN.{length};
-ghost use Rattle.anchors_cache.specs.Rules.{maxAnchors, sameBool, rightSize, aboveLast, lastOf, room};
-ghost use Rattle.anchors_cache.specs.Tables.{tablesBytes, anchors, anchorsOf};
+ghost use Rattle.cache_rules.specs.Rules.{maxAnchors, sameBool, rightSize, aboveLast, lastOf, room};
+ghost use Rattle.anchors_cache.specs.Tables.{tablesBytes, anchors};
 ghost use Rattle.anchors_cache.specs.Calls.{soundAnchor, soundTotal, validCache, valid, refusal, refusalAt, refusalSeen, addNumber};
 use crate::AnchorsCache;
 use crate::AnchorsCacheTransaction;
 use crate::CachedAnchor;
 use crate::Total;
 use crate::tables;
+use cache_rules::AREA_BYTES;
+use cache_rules::MAX_ANCHOR_MESSAGES;
+use cache_rules::MAX_ANCHORS;
+use cache_rules::MAX_HISTORY;
+use cache_rules::MAX_MESSAGES;
 
-const AREA_BYTES: usize = 33792;
-
-const MAX_ANCHORS: usize = 32;
-
-const MAX_ANCHOR_MESSAGES: usize = 512;
-
-const MAX_MESSAGES: usize = 1024;
-
-const MAX_HISTORY: usize = 256;
-
-const ANY_PLACES: usize = 558992244657865200;
+// As many messages as any area can hold: what a call asks that is lent none.
+const ANY_PLACES: usize = usize::MAX / 33;
 
 pub(crate) fn same_bool(a: bool, b: bool) -> bool
     ensures { λ r. ⌜ r ≡ sameBool a b ⌝ }
@@ -72,7 +67,7 @@ fn sound_total(tables: &[u8], first: usize, len: usize) -> Total
 fn valid_cache(tables: &[u8], places: usize, c: AnchorsCache) -> bool
     ensures { λ r. ⌜ r ≡ validCache places (now (tables .entry)) c ⌝ }
 {
-    if tables.len() < tables::TABLES_BYTES {
+    if tables.len() < crate::TABLES_BYTES {
         return false;
     }
     let first = c.first;

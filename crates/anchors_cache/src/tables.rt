@@ -1,24 +1,21 @@
 // Rows of the lent tables: 256 of 52 bytes of history, then 32 of 50 bytes of cached anchors.
 ghost use mathlib.Core.Path.{_≡_};
-ghost use Prim.Native.Nat.{ℕ, _+_, _*_, _/_, _<_, _≤_};
+ghost use Prim.Native.Nat.{_+_, _*_, _/_, _<_, _≤_};
 ghost use mathlib.Core.Bool.{_&&_};
 ghost use lib.Dec.{ltb, leb};
 ghost use lib.ListN.{length};
 ghost use Rattle.rows.specs.Rows.{part};
-ghost use Rattle.anchors_cache.specs.Rules.{maxAnchorMessages, maxHistory, maxAnchors, dropStale, trimBack, trimHistory, total};
+ghost use Rattle.cache_rules.specs.Rules.{maxAnchorMessages, maxHistory, maxAnchors, dropStale, trimBack, trimHistory, total, authorBytes};
 ghost use Rattle.anchors_cache.specs.Tables.{tablesBytes, anchorRow, infoRow, anchors, infos, anchorAt, infoAt};
 ghost use Rattle.anchors_cache.specs.Windows.{rowTime, infoFor};
 ghost use Rattle.anchors_cache.specs.Calls.{cachedAnchor, anchorInfo, rowFor};
 use crate::AnchorInfo;
 use crate::CachedAnchor;
+use crate::HISTORY_BYTES;
 use crate::MempoolAnchor;
+use crate::TABLES_BYTES;
+use cache_rules::AUTHOR_BYTES;
 use ext_types::ChainTime;
-
-pub(crate) const TABLES_BYTES: usize = 14912;
-
-pub(crate) const HISTORY_BYTES: usize = 13312;
-
-pub(crate) const ANCHOR_BYTES: usize = 1600;
 
 // Whether a table of `cap` rows has one at an index.
 pub(crate) fn has_row(tables: &[u8], i: usize, cap: usize) -> bool
@@ -70,12 +67,12 @@ pub(crate) fn info_at(tables: &[u8], i: usize) -> AnchorInfo
 }
 
 // The 32 bytes from a place of the tables.
-pub(crate) fn author_at(tables: &[u8], at: usize) -> [u8; 32]
-    requires { ⌜ at + 32 ≤ length (now tables) ⌝ }
-    ensures { λ r. ⌜ r ≡ part at 32 (now (tables .entry)) ⌝ }
+pub(crate) fn author_at(tables: &[u8], at: usize) -> [u8; AUTHOR_BYTES]
+    requires { ⌜ at + authorBytes ≤ length (now tables) ⌝ }
+    ensures { λ r. ⌜ r ≡ part at authorBytes (now (tables .entry)) ⌝ }
 {
-    let mut author = [0u8; 32];
-    rows::copy_in(&mut author, 0, &tables[at..at + 32]);
+    let mut author = [0u8; AUTHOR_BYTES];
+    rows::copy_in(&mut author, 0, &tables[at..at + AUTHOR_BYTES]);
     author
 }
 

@@ -1,12 +1,12 @@
-// What a pop, a trim and an add do to the window. Only an add writes, and only behind the window or, where the table ends there, at its start.
+// What a pop, a trim and an add do to the window. Only an add writes, and only behind the window or, where the table
+// ends there, at its start.
 ghost use mathlib.Core.Path.{_≡_};
-ghost use Prim.Native.Nat.{ℕ, _+_, _*_, _/_, _<_, _≤_};
+ghost use Prim.Native.Nat.{_+_, _*_, _<_, _≤_};
 ghost use lib.ListN.{length};
 ghost use Rattle.anchors_cache.specs.Tables.{tablesBytes};
-ghost use Rattle.anchors_cache.specs.Rules.{maxAnchors, maxHistory};
-ghost use Rattle.rows.specs.Rows.{pick};
-ghost use Rattle.anchors_cache.specs.Windows.{poppedCache, poppedTimes, trimmedCache, inHistory, historyAdded, inCache, anchorAdded, messagesAdded, usedBy, addedCache, addedTables, addedArea, Sound, Room, Lies};
-ghost use Rattle.anchors_cache.specs.Calls.{areaBytes, anyPlaces, rowFor, placedAt};
+ghost use Rattle.cache_rules.specs.Rules.{maxAnchors, maxHistory, areaBytes};
+ghost use Rattle.anchors_cache.specs.Windows.{poppedCache, poppedTimes, trimmedCache, inHistory, historyAdded, inCache, anchorAdded, messagesAdded, addedCache, addedTables, addedArea, Sound, Room, Lies, anyPlaces};
+ghost use Rattle.anchors_cache.specs.Calls.{rowFor, placedAt};
 use crate::AnchorsCache;
 use crate::MempoolAnchor;
 use crate::tables;
@@ -88,14 +88,7 @@ fn in_history(c: AnchorsCache, tables: &mut [u8], row: &[u8]) -> AnchorsCache
 {
     let hf = c.history_first;
     let hl = c.history_len;
-    let at = rows::append(
-        &mut *tables,
-        0,
-        52 * hf,
-        52 * hl,
-        tables::HISTORY_BYTES,
-        row,
-    );
+    let at = rows::append(&mut *tables, 0, 52 * hf, 52 * hl, crate::HISTORY_BYTES, row);
     let mut d = c;
     d.history_first = placed(at, hf);
     d.history_len = hl + 1;
@@ -119,10 +112,10 @@ fn in_cache(
     let base = c.base;
     let at = rows::append(
         &mut *tables,
-        tables::HISTORY_BYTES,
+        crate::HISTORY_BYTES,
         50 * first,
         50 * len,
-        tables::ANCHOR_BYTES,
+        crate::ANCHOR_BYTES,
         row,
     );
     let n = area.len();

@@ -4,9 +4,9 @@ use crate::lent;
 use crate::state;
 use crate::state::Case;
 use anchors_cache::FlagAnswer;
-use externals_reader::ExternalsReader;
 use externals_reader::ReaderDone;
-use reader_offsets::ByPartitions;
+use reader_rules::ByPartitions;
+use reader_rules::ExternalsReader;
 
 pub const CALLS: u8 = 30;
 

@@ -1,10 +1,10 @@
 // Readers and transactions as numbers, to tell whether a refused call changed one.
 use anchors_cache::AnchorsCache;
 use anchors_cache::AnchorsCacheTransaction;
-use externals_reader::ExternalsReader;
-use externals_reader::ExternalsReaderState;
-use range_reader::ExternalsRangeReaderState;
-use range_reader::LastChainTime;
+use range_rules::ExternalsRangeReaderState;
+use range_rules::LastChainTime;
+use reader_rules::ExternalsReader;
+use reader_rules::ExternalsReaderState;
 
 // Each number times 31 to what went before.
 fn fold(start: u64, numbers: [u64; 9]) -> u64 {

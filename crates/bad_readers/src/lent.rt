@@ -6,10 +6,10 @@ use crate::state;
 use crate::state::Case;
 use anchors_cache::FlagAnswer;
 use ext_types::Seconds;
-use externals_reader::ExternalsReader;
-use externals_reader::GetNextMessageGroupMode;
-use externals_reader::MsgsExecutionParams;
 use externals_reader::ReadIntoBuffers;
+use reader_rules::ExternalsReader;
+use reader_rules::GetNextMessageGroupMode;
+use reader_rules::MsgsExecutionParams;
 
 pub fn has_pending(c: Case, reader: ExternalsReader) -> FlagAnswer {
     let tables = [0u8; 14912];
@@ -44,7 +44,7 @@ fn group_mode(refill: bool) -> GetNextMessageGroupMode {
 
 fn unread(number: u8, c: Case, reader: ExternalsReader) -> ReadIntoBuffers {
     let zeros = [0u32; 8];
-    let counts = range_reader::ReadCounts {
+    let counts = range_rules::ReadCounts {
         read: zeros,
         expired: zeros,
         buffered: zeros,
@@ -124,6 +124,18 @@ fn is_read(reader: ExternalsReader, i: usize) -> bool {
     range.fully_read
 }
 
+pub fn write_front(line: &[u8], at: usize) {
+    if at <= line.len() {
+        io::write_all(1, &line[0..at]);
+    }
+}
+
+fn print_line(name: &[u8], numbers: &[u64]) {
+    let mut line = [0u8; 256];
+    let at = text::put_line(&mut line, 0, name, numbers);
+    write_front(&line, at);
+}
+
 // What a read leaves: its number, the mark, how many ranges there are, and whether the last is fully read.
 fn print_read(name: &[u8], c: Case, refill: bool) {
     let mut out = [7u8; 60];
@@ -131,17 +143,14 @@ fn print_read(name: &[u8], c: Case, refill: bool) {
     let reader = r.reader;
     let held = reader.reader_state;
     let last = std::num::wrapping_sub_usize(held.len, 1);
-    io::write_all(1, name);
-    print(r.number as u64);
-    print(reader.all_ranges_fully_read as u64);
-    print(held.len as u64);
-    print(is_read(reader, last) as u64);
-    io::write_all(1, b"\n");
-}
-
-pub fn print(n: u64) {
-    io::write_all(1, b" ");
-    io::print_decimal(1, n);
+    let mark = reader.all_ranges_fully_read as u64;
+    let numbers = [
+        r.number as u64,
+        mark,
+        held.len as u64,
+        is_read(reader, last) as u64,
+    ];
+    print_line(name, &numbers);
 }
 
 fn print_reads_of_none() {
@@ -197,12 +206,13 @@ fn limit(most: u8) -> u64 {
 
 // The limit that counts, also where question 4 would refuse the number.
 pub fn print_limits() {
-    io::write_all(1, b"open_ranges_limit");
-    print(limit(0));
-    print(limit(1));
-    print(limit(2));
-    print(limit(3));
-    print(limit(16));
-    print(limit(255));
-    io::write_all(1, b"\n");
+    let numbers = [
+        limit(0),
+        limit(1),
+        limit(2),
+        limit(3),
+        limit(16),
+        limit(255),
+    ];
+    print_line(b"open_ranges_limit", &numbers);
 }

@@ -1,4 +1,4 @@
-// Hands every call of the externals reader states that the questions refuse, and some that they must not refuse (README.md).
+// Hands every call of the externals reader states that the questions refuse, and some that they must not (README.md).
 use state::Case;
 
 mod calls;
@@ -6,20 +6,29 @@ mod digest;
 mod lent;
 mod state;
 
+fn put_answer(line: &mut [u8; 512], at: usize, number: u8) -> usize {
+    if number == calls::CHANGED {
+        return text::put(line, at, b" changed");
+    }
+    text::put_number(line, at, number as u64)
+}
+
+// The end of a line is put, and the line is written.
+fn print_end(line: &mut [u8; 512], at: usize) {
+    let end = text::put(line, at, b"\n");
+    lent::write_front(line, end);
+}
+
 // The line of a case: its name and the numbers of the calls.
 fn print_case(name: &[u8], c: Case) {
-    io::write_all(1, name);
+    let mut line = [0u8; 512];
+    let mut at = text::put(&mut line, 0, name);
     let mut which: u8 = 0;
     while which < calls::CALLS {
-        let number = calls::number(c, which);
-        if number == calls::CHANGED {
-            io::write_all(1, b" changed");
-        } else {
-            lent::print(number as u64);
-        }
+        at = put_answer(&mut line, at, calls::number(c, which));
         which += 1;
     }
-    io::write_all(1, b"\n");
+    print_end(&mut line, at);
 }
 
 fn print_ranges() {

@@ -4,17 +4,19 @@ use anchors_cache::AnchorsCacheTransaction;
 use ext_types::ChainTime;
 use ext_types::ExternalKey;
 use ext_types::Seconds;
-use externals_reader::ExternalsPartitionReaderState;
-use externals_reader::ExternalsReader;
-use externals_reader::ExternalsReaderState;
-use externals_reader::MsgsExecutionParams;
 use messages_buffer::ExternalsPartitionRangeReaderState;
 use messages_buffer::NO_LIMIT;
-use range_reader::ExternalsRangeReaderState;
-use range_reader::LastChainTime;
+use range_rules::ExternalsRangeReaderState;
+use range_rules::LastChainTime;
+use reader_rules::ExternalsPartitionReaderState;
+use reader_rules::ExternalsReader;
+use reader_rules::ExternalsReaderState;
+use reader_rules::MsgsExecutionParams;
 use shard_ident::ShardIdent;
 
-// `len` ranges; the seqno of the second; the seqno and the count of partition 0 in the sixth slot, which is free; count, presence and limit of partition 3; whether partition 7 is there, and partition 0 in the last range and in the reader. Then the settings, the call's arguments, and what is lent.
+// `len` ranges; the seqno of the second; the seqno and the count of partition 0 in the sixth slot, which is free;
+// count, presence and limit of partition 3; whether partition 7 is there, and partition 0 in the last range and in the
+// reader. Then the settings, the call's arguments, and what is lent.
 pub struct Case {
     pub len: usize,
     pub second: u32,

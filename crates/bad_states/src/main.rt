@@ -1,11 +1,10 @@
-// Hands every call of the anchors cache states that the questions refuse, and some that they must not refuse (README.md).
+// Hands every call of the anchors cache states that the questions refuse, and some that they must not (README.md).
 use anchors_cache::AnchorsCache;
 use anchors_cache::AnchorsCacheTransaction;
 use calls::New;
 
 mod calls;
 mod state;
-mod text;
 
 // What is lent, in bytes.
 const TABLES: usize = 14912;
@@ -20,7 +19,7 @@ fn put_answer(out: &mut [u8; 16384], at: usize, number: u8) -> usize {
     if number == calls::CHANGED {
         return text::put(out, at, b" changed");
     }
-    text::put_number(out, at, number)
+    text::put_number(out, at, number as u64)
 }
 
 fn put_answers(out: &mut [u8; 16384], at: usize, numbers: [u8; 16]) -> usize {
@@ -48,7 +47,7 @@ fn put_case(
     put_answers(out, told, calls::numbers(tables, area, t))
 }
 
-// A window as the present cache, and as what a rollback restores: with a transaction open and with none, when it is free.
+// A window as the present cache, and as what a rollback restores: with a transaction open and with none (free).
 fn put_window(
     out: &mut [u8; 16384],
     at: usize,
@@ -192,6 +191,17 @@ fn put_adds(out: &mut [u8; 16384], at: usize) -> usize {
     put_add(out, f, b"add_ours_above_count_last_id", anchor(3, 2, 33))
 }
 
+fn write_front(out: &[u8], at: usize) {
+    if at <= out.len() {
+        io::write_all(1, &out[0..at]);
+    }
+}
+
+// A part can be taken of a slice, not of an array behind a reference.
+fn write(out: &[u8; 16384], at: usize) {
+    write_front(out, at);
+}
+
 fn main() {
     let mut out = [0u8; 16384];
     let lent = put_lent(&mut out, 0);
@@ -200,5 +210,5 @@ fn main() {
     let bases = put_bases(&mut out, unsound);
     let ends = put_ends(&mut out, bases);
     let adds = put_adds(&mut out, ends);
-    text::write(&out, adds);
+    write(&out, adds);
 }

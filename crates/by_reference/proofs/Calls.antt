@@ -1,4 +1,5 @@
--- The six thin calls as the laws of `Thin.antt` and `Lend.antt` have them: the parameters behind the transaction, what each core answers and leaves, and what is asked of the cores' results.
+-- The six thin calls as the laws of `Thin.antt` and `Lend.antt` have them: the parameters behind the transaction, what
+-- each core answers and leaves, and what is asked of the cores' results.
 -- Assumes nothing.
 use mathlib.Core.Path.{ap}
 use mathlib.Core.List.{List, [], _∷_}
@@ -22,7 +23,7 @@ use Rattle.anchors_cache.proofs.InfoAnswer as Last
 use Rattle.anchors_cache.proofs.InfoAnswer.Laws as Last′
 use Rattle.ext_types.proofs.ChainTime as Time
 use Rattle.ext_types.proofs.ChainTime.Laws as Time′
-use Rattle.by_reference.specs.Answers.{popping, trimming}
+use Rattle.by_reference.specs.Answers.{popParted, trimParted}
 use Rattle.by_reference.specs.declared.Popping.{Popping}
 use Rattle.by_reference.specs.declared.Trimming.{Trimming}
 use Rattle.by_reference.proofs.Popping as P
@@ -44,7 +45,7 @@ abbrev pub open-call : Nows tables-area → AnchorsCacheTransaction → Done
 open-call s t = openCall (length (s .1 .0)) (s .0) t
 
 abbrev pub pop-call : Nows tables-area → AnchorsCacheTransaction → Popping
-pop-call s t = popping (popCall (length (s .1 .0)) (s .0) t)
+pop-call s t = popParted (popCall (length (s .1 .0)) (s .0) t)
 
 abbrev pub commit-call : Nows tables-area → AnchorsCacheTransaction → Done
 commit-call s t = commitCall (length (s .1 .0)) (s .0) t
@@ -53,7 +54,7 @@ abbrev pub rollback-call : Nows tables-area → AnchorsCacheTransaction → Done
 rollback-call s t = rollbackCall (length (s .1 .0)) (s .0) t
 
 abbrev pub trim-call : Nows tables-area-time → AnchorsCacheTransaction → Trimming
-trim-call s t = trimming (trimCall (length (s .1 .0)) (s .1 .1 .0 .0) (s .0) t)
+trim-call s t = trimParted (trimCall (length (s .1 .0)) (s .1 .1 .0 .0) (s .0) t)
 
 abbrev pub close-call : Nows tables-area → AnchorsCacheTransaction → Done
 close-call s t = closeCall (length (s .1 .0)) (s .0) t

@@ -1,8 +1,10 @@
--- A local of the type T that is lent to a thin function (`Thin.antt`), for a lifetime that is made for the call, and comes back at the T that the function left.
+-- A local of the type T that is lent to a thin function (`Thin.antt`), for a lifetime that is made for the call, and
+-- comes back at the T that the function left.
 -- All that is known of the function is that it meets its contract.
 --     lies-in, lies-out      a local as what lies behind a reference, and back
 --     all-twice              parameters that are all Copy can be had twice
---     lent-call              the call, as one step of a walk. Held is what the caller has of the other parameters, and it has it again
+--     lent-call              the call, as one step of a walk. Held is what the caller has of the other parameters, and
+-- it has it again
 -- Assumes `Given`, and `FmC` of the table of calls.
 use mathlib.Core.Path.{_≡_, refl, sym, ap, _∙_, subst}
 use Prim.Native.Nat.{ℕ, suc}

@@ -15,15 +15,15 @@ use Rattle.rows.specs.Rows.{pick, sameBytes, startsWith, rows}
 use Rattle.rows.proofs.Laws.{pick-yes, pick-no}
 use Rattle.shard_ident.specs.Shard.{signedByte, equalℤ}
 use Rattle.router.specs.Router.{routePartition, routesNumber, firstPartition, unlessRefused, getPartition, partitionOf as rowsPartition}
-use Rattle.by_reference.specs.Search.{sameRoute, partitionOf, routeOf, routesOf, byteOf, rowOf, rowsOf}
+use Rattle.by_reference.specs.Search.{sameRoute, firstPartitionIn, routeOf, routesOf, byteOf, routeRow, rowsOf}
 use Rattle.by_reference.specs.declared.Route.{Route}
 
 -- what stands past the end of a list
 abbrev pub noRoute : Route
 noRoute = record { workchain = pos 0; account = []; partition = 0 }
 
-pub route-step : (l : List Route) (w : ℤ) (a : List ℕ) (i : ℕ) → i < length l → partitionOf (drop i l) w a ≡ pick (sameRoute (getD l i noRoute) w a) (getD l i noRoute .partition) (partitionOf (drop (suc i) l) w a)
-route-step l w a i h = ap (λ (x : List Route). partitionOf x w a) (drop-cons l i noRoute h)
+pub route-step : (l : List Route) (w : ℤ) (a : List ℕ) (i : ℕ) → i < length l → firstPartitionIn (drop i l) w a ≡ pick (sameRoute (getD l i noRoute) w a) (getD l i noRoute .partition) (firstPartitionIn (drop (suc i) l) w a)
+route-step l w a i h = ap (λ (x : List Route). firstPartitionIn x w a) (drop-cons l i noRoute h)
 
 -- ---- one route
 equal-self : (a : ℤ) → equalℤ a a ≡ true
@@ -61,7 +61,7 @@ same-signed a b ha hb = go (ltb a 128) (ltb b 128) refl refl
 
 -- n rows, searched as rows and as the records they hold
 rows-agree : (n : ℕ) (bytes : List ℕ) (byte : ℕ) (account : List ℕ) → ((i : ℕ) → getD bytes i 0 < 256) → byte < 256 → 34 * n ≤ length bytes
-    → firstPartition (byte ∷ account) (rows 34 n bytes) ≡ partitionOf (map routeOf (rows 34 n bytes)) (signedByte byte) account
+    → firstPartition (byte ∷ account) (rows 34 n bytes) ≡ firstPartitionIn (map routeOf (rows 34 n bytes)) (signedByte byte) account
 unfolding rows firstPartition sameBytes
 rows-agree zero bytes byte account small hb long = refl
 rows-agree (suc n) [] byte account small hb long = absurd (omega (arith, long))
@@ -69,9 +69,10 @@ rows-agree (suc n) (x ∷ bytes) byte account small hb long =
     ap (λ (t : Bool). pick (pick t (sameBytes (take 32 (take 33 bytes)) account) false) (routePartition (x ∷ take 33 bytes)) (firstPartition (byte ∷ account) (rows 34 n (drop 33 bytes)))) (same-signed x byte (small 0) hb)
     ∙ ap (λ (p : ℕ). pick (sameRoute (routeOf (x ∷ take 33 bytes)) (signedByte byte) account) (routePartition (x ∷ take 33 bytes)) p) (rows-agree n (drop 33 bytes) byte account (λ i. subst (λ (b : ℕ). b < 256) (sym (getD-drop 34 (x ∷ bytes) i 0)) (small (34 + i))) hb (omega (arith, long, length-drop 33 bytes)))
 
--- A message is a workchain's byte and an account. On every table of rows the router answers what the search in their records answers, unless question 3 refuses the table.
+-- A message is a workchain's byte and an account. On every table of rows the router answers what the search in their
+-- records answers, unless question 3 refuses the table.
 pub the-records-router-is-the-rows-router : (bytes : List ℕ) (byte : ℕ) (account : List ℕ) → ((i : ℕ) → getD bytes i 0 < 256) → byte < 256
-    → getPartition bytes (byte ∷ account) ≡ unlessRefused (routesNumber bytes) (partitionOf (routesOf bytes) (signedByte byte) account)
+    → getPartition bytes (byte ∷ account) ≡ unlessRefused (routesNumber bytes) (firstPartitionIn (routesOf bytes) (signedByte byte) account)
 unfolding getPartition rowsPartition
 the-records-router-is-the-rows-router bytes byte account small hb = ap (unlessRefused (routesNumber bytes)) (rows-agree (length bytes / 34) bytes byte account small hb (omega arith))
 
@@ -90,23 +91,23 @@ abbrev pub AreRoutes : List Route → Type 0
 AreRoutes [] = Unit {0}
 AreRoutes (r ∷ l) = (SFits w8 (r .workchain) × (length (r .account) ≡ 32)) × AreRoutes l
 
-row-length : (r : Route) → length (r .account) ≡ 32 → length (rowOf r) ≡ 34
+row-length : (r : Route) → length (r .account) ≡ 32 → length (routeRow r) ≡ 34
 row-length r e = omega (arith, e, length-append (r .account) (r .partition ∷ []))
 
 rows-length : (l : List Route) → AreRoutes l → length (rowsOf l) ≡ 34 * length l
 unfolding rowsOf
 rows-length [] are = refl
-rows-length (r ∷ l) are = omega (arith, length-append (rowOf r) (rowsOf l), row-length r (are .0 .1), rows-length l (are .1))
+rows-length (r ∷ l) are = omega (arith, length-append (routeRow r) (rowsOf l), row-length r (are .0 .1), rows-length l (are .1))
 
-rows-are : (l : List Route) → AreRoutes l → rows 34 (length l) (rowsOf l) ≡ map rowOf l
+rows-are : (l : List Route) → AreRoutes l → rows 34 (length l) (rowsOf l) ≡ map routeRow l
 unfolding rows rowsOf
 rows-are [] are = refl
 rows-are (r ∷ l) are =
-    ap (λ (k : List ℕ). k ∷ rows 34 (length l) (drop 34 (rowOf r ++ rowsOf l))) (take-at (rowOf r) (rowsOf l) 34 (row-length r (are .0 .1)))
-    ∙ ap (λ (k : List ℕ). rowOf r ∷ rows 34 (length l) k) (drop-at (rowOf r) (rowsOf l) 34 (row-length r (are .0 .1)))
-    ∙ ap (λ (k : List (List ℕ)). rowOf r ∷ k) (rows-are l (are .1))
+    ap (λ (k : List ℕ). k ∷ rows 34 (length l) (drop 34 (routeRow r ++ rowsOf l))) (take-at (routeRow r) (rowsOf l) 34 (row-length r (are .0 .1)))
+    ∙ ap (λ (k : List ℕ). routeRow r ∷ rows 34 (length l) k) (drop-at (routeRow r) (rowsOf l) 34 (row-length r (are .0 .1)))
+    ∙ ap (λ (k : List (List ℕ)). routeRow r ∷ k) (rows-are l (are .1))
 
-written-agree : (l : List Route) (w : ℤ) (account : List ℕ) → AreRoutes l → SFits w8 w → firstPartition (byteOf w ∷ account) (map rowOf l) ≡ partitionOf l w account
+written-agree : (l : List Route) (w : ℤ) (account : List ℕ) → AreRoutes l → SFits w8 w → firstPartition (byteOf w ∷ account) (map routeRow l) ≡ firstPartitionIn l w account
 unfolding firstPartition sameBytes
 written-agree [] w account are fw = refl
 written-agree (r ∷ l) w account are fw =
@@ -114,7 +115,7 @@ written-agree (r ∷ l) w account are fw =
 
 -- The same from the records on: the router on their rows answers what the search in them answers.
 pub the-rows-router-is-the-records-router : (l : List Route) (w : ℤ) (account : List ℕ) → AreRoutes l → SFits w8 w
-    → getPartition (rowsOf l) (byteOf w ∷ account) ≡ unlessRefused (routesNumber (rowsOf l)) (partitionOf l w account)
+    → getPartition (rowsOf l) (byteOf w ∷ account) ≡ unlessRefused (routesNumber (rowsOf l)) (firstPartitionIn l w account)
 unfolding getPartition rowsPartition
 the-rows-router-is-the-records-router l w account are fw =
     ap (λ (n : ℕ). unlessRefused (routesNumber (rowsOf l)) (firstPartition (byteOf w ∷ account) (rows 34 n (rowsOf l)))) {x = length (rowsOf l) / 34} {y = length l} (omega (arith, rows-length l are))

@@ -1,12 +1,17 @@
 -- One law for every thin function over a core that goes by value:
---     fn f(t: &mut T, p: P, ..) -> S { let r = core(p, .., *t); *t = r.1; r.0 }        core's result is a struct of the S, field 0, and the T, field 1
--- T is a declared struct of plain data, of any shape, S any type of one machine value, and the parameters behind t any list of Copy types of one machine value each, and of `&mut [u8]`s, which are lent on to core.
+--     fn f(t: &mut T, p: P, ..) -> S { let r = core(p, .., *t); *t = r.1; r.0 }        core's result is a struct of the
+-- S, field 0, and the T, field 1
+-- T is a declared struct of plain data, of any shape, S any type of one machine value, and the parameters behind t any
+-- list of Copy types of one machine value each, and of `&mut [u8]`s, which are lent on to core.
 --     thin         f's MIR
 --     thin-walk    f's MIR from what it has at entry to Post: the walk of MIR, done once for all
---     Param        what the law asks of a parameter behind t.        lent-bytes, lent-mut     a `&[u8]` and a `&mut [u8]`.        by-value     a declared struct of plain data.        number, flag     a number and a bool
+--     Param        what the law asks of a parameter behind t.        lent-bytes, lent-mut     a `&[u8]` and a `&mut
+-- [u8]`.        by-value     a declared struct of plain data.        number, flag     a number and a bool
 --     Result       what it asks of core's result
---     says-meets   the law at a contract: what f's says of the answer, the last T and the lent bytes at exit follows from what core's says of its result and of them
---     thin-meets   the same where core's result is `Call` of the parameters and the T: f's answer and the last T are its two fields
+--     says-meets   the law at a contract: what f's says of the answer, the last T and the lent bytes at exit follows
+-- from what core's says of its result and of them
+--     thin-meets   the same where core's result is `Call` of the parameters and the T: f's answer and the last T are
+-- its two fields
 -- A function of this form cites one of the two and has no walk of its own.
 -- Assumes `Given`.
 use mathlib.Core.Path.{_≡_, refl, sym, ap, _∙_, subst}
@@ -54,7 +59,8 @@ use denote.Triple.Spec.{Meets, tripleOf}
 use denote.Triple.Walked.{says, Stay, Stays, AllGo, fitsOf, hasOf, stay-ref, walkOf, goes-ref, ends-at, walked, walk-meets}
 
 -- ---- the MIR
--- how a parameter is passed on: copied, or, a `&mut [u8]` of the lifetime j, lent on by a second reference to the same bytes
+-- how a parameter is passed on: copied, or, a `&mut [u8]` of the lifetime j, lent on by a second reference to the same
+-- bytes
 pub data Way : Type 0 where
   copied : Ty → Way
   lent-on : ℕ → Way
@@ -89,7 +95,8 @@ lending (lent-on j ∷ ws) i m rest =
     seq (assign (place m []) (addrOf (place i (field 0 ∷ deref (tyInt w8) ∷ []))))
     (seq (assign (place (suc m) []) (aggregate (copy (place m []) ∷ copy (place i (field 1 ∷ [])) ∷ []))) (lending ws (suc i) (suc (suc m)) rest))
 
--- what core is passed: the parameters from i on, or their second references from m on, and the copy of `*t`, the local c
+-- what core is passed: the parameters from i on, or their second references from m on, and the copy of `*t`, the local
+-- c
 abbrev operands : List Way → ℕ → ℕ → ℕ → List Operand
 operands [] i m c = copy (place c []) ∷ []
 operands (copied τ ∷ ws) i m c = copy (place i []) ∷ operands ws (suc i) m c
@@ -233,13 +240,15 @@ module _ {M : Type 1} {𝓤 : URA M} {H : Heap 𝓤} {A : Atoms 𝓤} (W : Given
         lend-all ws (bs .1) ms (xs .1) (t .1) (suc i) m (f .1) g (move ! (2 ∷ 3 ∷ 1 ∷ []) $ join ! $ join ! $ move ! (1 ∷ 0 ∷ []) $ k)
     lend-all (lent-on j ∷ ws) bs ms xs t i m f g k =
         split ! $ split ! $ move ! (2 ∷ []) $ split ! $ split ! $ move ! (5 ∷ []) $ split ! $ split ! $
-        -- [the parameter; …; the parameters behind it; room for the slice; …; the rooms behind it; room for the pointer; …]
+        -- [the parameter; …; the parameters behind it; room for the slice; …; the rooms behind it; room for the
+        -- pointer; …]
         assigns ! (addr ! (at-local (f .0) (fld ! refl (hop ! (look-in ! 0 (sub ! 0 refl (whole !))) (stop !))))) (at-local (g .0) (stop !)) (init ! 6 refl (tt, tt)) $
         assigns ! (agg ! (and-then ! (load ! (at-local (g .0) (stop !)) (look ! 6 refl)) (and-then ! (load ! (at-local (f .0) (fld ! refl (stop !))) (look-in ! 0 (sub ! 1 refl (whole !)))) (no-more !)))) (at-local (g .1 .0) (stop !)) (init ! 3 refl (t .0)) $
         move ! (5 ∷ 2 ∷ []) $ lend-all ws (bs .1) (ms .1 .1) (xs .1) (t .1) (suc i) (suc (suc m)) (f .1) (g .1 .1)
         (move ! (4 ∷ 5 ∷ 0 ∷ []) $ join ! $ join ! $ move ! (4 ∷ 5 ∷ 0 ∷ []) $ join ! $ join ! $ move ! (2 ∷ 3 ∷ 1 ∷ []) $ join ! $ join ! $ move ! (1 ∷ 0 ∷ []) $ k)
 
-    -- what core is passed is read; the copy of `*t` stands in the block lc and is the entry n of the rest of the context
+    -- what core is passed is read; the copy of `*t` stands in the block lc and is the entry n of the rest of the
+    -- context
     read-all : {τ : Ty} {lc : ℕ} {v : Val} (c : ℕ) → getD E c (noLocal 𝓤 H) ≡ (τ, lc) → (ws : List Way) (bs : Blocks (way-tys ws)) (ms : Blocks (seconds ws)) (xs : AllPassed ws)
         → (i m : ℕ) → Found K E i (way-tys ws) bs → Found K′ E m (seconds ws) ms → (Γ : List (Item 𝓤)) (n : ℕ) → nth 𝓤 H A n Γ ≡ ‵ (fat fullShare τ lc 0 v)
         → Opds (Go {0}) W (Cells (seconds ws) ms (second-vals ws xs) ∷ Cells (way-tys ws) bs (way-vals ws xs) ∷ Γ) E (operands ws i m c) (way-vals ws xs ++ (v ∷ []))
@@ -287,8 +296,10 @@ pub record Result (T : Declared) (L : LL.Laws T) (τS : Ty) (ν : Sym) : Type 2 
   pub state-is : (r : row-of .Denot) (u : Val) → Is row-of r (u ∷ []) → Is (row T) (state r) (LL.val T L (state r) ∷ [])
 
 -- ---- the walk. What is left to each function is what its signature says:
---     called     what core asks follows from the tokens Tok, what the parameters own and that h is a T, so the call runs to Q
---     back       what Q says: the tokens are back, and the result r is owned, with E r;        said      what E r states, and what is had of the parameters, at some z
+--     called     what core asks follows from the tokens Tok, what the parameters own and that h is a T, so the call
+-- runs to Q
+--     back       what Q says: the tokens are back, and the result r is owned, with E r;        said      what E r
+-- states, and what is had of the parameters, at some z
 --     exits      what is had at exit gives Post
 module _ (T : Declared) (L : LL.Laws T) (pl : Plains (fields T)) (τS : Ty) (ν : Sym) (O : Result T L τS ν) (ws : List Way) (core : Name) (lifetimes : ℕ)
     {M : Type 1} (𝓤 : URA M) (H : Heap 𝓤) (A : Atoms 𝓤) (W : Given 𝓤 H A) (C : Calls 𝓤 H) (Λ : Loops 𝓤 H) (fm : FmC 𝓤 H (W .laws) C)
@@ -339,17 +350,20 @@ module _ (T : Declared) (L : LL.Laws T) (pl : Plains (fields T)) (τS : Ty) (ν 
       move ! (11 ∷ []) $ fsplit ! $ fsplit3 ! $ drop ! $ move ! (13 ∷ []) $ split ! $ move ! (2 ∷ 3 ∷ 0 ∷ []) $
       opens ! tt (row T) {h = h} b o (λ us. spelt ! (row T) (Is (row T)) (shows 𝓤 H A (row T)) (LL.vals T L) (LL.tells T L) fullShare h us b o $
       move ! (1 ∷ []) $ peeks ! (row T) (Is (row T)) (shows 𝓤 H A (row T)) h (LL.val T L h ∷ []) (λ was. move ! (1 ∷ 0 ∷ []) $
-      -- [the cell behind t; what h owns; the open borrow; obs; auth; the tokens; what the parameters own; the parameters; room for the copy; …; rooms for the second references; room for r; …; _1; …; room for _0; …]
+      -- [the cell behind t; what h owns; the open borrow; obs; auth; the tokens; what the parameters own; the
+      -- parameters; room for the copy; …; rooms for the second references; room for r; …; _1; …; room for _0; …]
       move ! (10 ∷ 7 ∷ []) $ lend-all W (AtResult lr lc ms) (AtCopy lr lc ms) ws bs ms xs are 2 (suc (at-r ws)) (the-params lr lc ms l₀ l₁ bs) (the-seconds lr lc ms l₀ l₁ bs) (
       assigns ! (of-opd ! (load ! (from ! (hop ! (look ! 13 refl) (stop !))) (look-raw ! 2 refl))) (at-local W (the-copy lr lc ms l₀ l₁ bs) (stop !)) (init ! 9 refl (LL.lawful T L 𝓤 H A W .typed h _ was .0)) $
       move ! (7 ∷ 8 ∷ []) $ join ! $
-      -- [what core asks; the second references; the parameters; the cell behind t; what h owns; the open borrow; obs; auth; the copy; …; room for r; …; _1; …; room for _0; …]
+      -- [what core asks; the second references; the parameters; the cell behind t; what h owns; the open borrow; obs;
+      -- auth; the copy; …; room for r; …; _1; …; room for _0; …]
       calls-from ! fm (Tok ⊛ ‵ Rest) (way-vals ws xs ++ (LL.val T L h ∷ [])) Q (called was)
       (read-behind W (AtResult lr lc ms) (AtCopy lr lc ms) (at-copy ws) (the-copy lr lc ms l₀ l₁ bs) ws bs ms xs 2 (suc (at-r ws)) (the-params lr lc ms l₀ l₁ bs) (the-seconds lr lc ms l₀ l₁ bs) 5 refl) (λ u.
       use1 W (later (some (λ (r : O .row-of .Denot). (Tok ⊛ ‵ (O .row-of .own r (u ∷ []))) ⊛ raw (E r)))) (back u) $ await ! tt $ pick ! (λ r.
       split ! $ move ! (1 ∷ []) $ use1 W (some (λ (z : Z). ‵ (Had z) ⊛ raw (fact 𝓤 (Said r z)))) (said r) $ pick ! (λ z. split ! $ move ! (1 ∷ []) $ heard ! (Said r z) (λ e. move ! (1 ∷ []) $ split ! $ move ! (1 ∷ []) $
       peeks ! (O .row-of) (Is (O .row-of)) (shows 𝓤 H A (O .row-of)) r (u ∷ []) (λ is.
-      -- [what r owns; the tokens; what is had of the parameters; the second references; the parameters; the cell behind t; what h owns; the open borrow; obs; auth; the copy; …; room for r; …; _1; …; room for _0; …]
+      -- [what r owns; the tokens; what is had of the parameters; the second references; the parameters; the cell behind
+      -- t; what h owns; the open borrow; obs; auth; the copy; …; room for r; …; _1; …; room for _0; …]
       land ! (at-local W (the-result lr lc ms l₀ l₁ bs) (stop !)) (init ! 12 refl (O .whole-typed 𝓤 H A W r u is)) $
       rewrite ! 12 (λ (w : Val). ‵ (fat fullShare (tyO T τS ν) lr 0 w)) (O .tells r u is) refl $
       assigns ! (of-opd ! (load ! (at-local W (the-result lr lc ms l₀ l₁ bs) (fld ! refl (stop !))) (look-in ! 12 (sub ! 1 refl (whole !))))) (from ! (hop ! (look ! 14 refl) (stop !))) (store-raw ! 5 refl (LL.lawful T L 𝓤 H A W .typed (O .state r) _ (O .state-is r u is) .0)) $
@@ -357,7 +371,8 @@ module _ (T : Declared) (L : LL.Laws T) (pl : Plains (fields T)) (τS : Ty) (ν 
       -- the borrow is closed at the new value
       move ! (6 ∷ []) $ drop ! $ owned ! (row T) (Is (row T)) (LL.makes T pl 𝓤 H A) (O .state r) _ (O .state-is r u is) $ move ! (6 ∷ 0 ∷ 7 ∷ 8 ∷ 9 ∷ []) $
       closes ! tt (row T) (O .state r) (LL.val T L (O .state r) ∷ []) b o $
-      -- [obs; the borrow; t's token; what r owns; the tokens; what is had of the parameters; the second references; the parameters; the copy; …; r; …; _1; …; _0; …]
+      -- [obs; the borrow; t's token; what r owns; the tokens; what is had of the parameters; the second references; the
+      -- parameters; the copy; …; r; …; _1; …; _0; …]
       returns ! (look ! 14 refl) $ forget ! 8 refl $ forget ! 10 refl $ forget ! 12 refl $ forget ! 14 refl $
       move ! (14 ∷ 15 ∷ []) $ free1 ! $ move ! (12 ∷ 13 ∷ []) $ free1 ! $ move ! (7 ∷ []) $ free-all W ((tyO T τS ν, lr) ∷ env W (seconds ws) ms ((tyT T, lc) ∷ [])) (way-tys ws) bs (way-vals ws xs) are (
       move ! (9 ∷ 10 ∷ []) $ free1 ! $ move ! (6 ∷ []) $ free-all W ((tyT T, lc) ∷ []) (seconds ws) ms (second-vals ws xs) (seconds-typed ws xs are) (
@@ -608,7 +623,8 @@ module _ (T : Declared) {τS : Ty} {ν : Sym} {L : LL.Laws T} (O : Result T L τ
   abbrev stayed : Stays (f-ended .signature .params) (f-ended .kept)
   stayed = (stay-ref (0 ∷ []) tt (plain (λ _. row T)), stays ps)
 
-  -- what core's contract says of the parameters, of what they are at exit, of the T and of the result; and f's, of the answer and of the last T
+  -- what core's contract says of the parameters, of what they are at exit, of the T and of the result; and f's, of the
+  -- answer and of the last T
   abbrev pub CoreSays : Type 1
   CoreSays = Nows ps → Ends ps → T .D → O .row-of .Denot → Type 0
 

@@ -12,17 +12,17 @@ use Rattle.by_reference.specs.declared.Trimming.{Trimming}
 use Rattle.by_reference.specs.declared.InTurn.{InTurn}
 
 -- a pop's answer, and a trim's, without the state
-abbrev pub frontOf : Popped → AnchorAnswer
-frontOf p = record { number = p .number; anchor = p .front; author = p .author }
+abbrev pub popAnswerOf : Popped → AnchorAnswer
+popAnswerOf p = record { number = p .number; anchor = p .front; author = p .author }
 
-abbrev pub lastOf : Trimmed → InfoAnswer
-lastOf p = record { number = p .number; info = p .last; author = p .author }
+abbrev pub trimAnswerOf : Trimmed → InfoAnswer
+trimAnswerOf p = record { number = p .number; info = p .last; author = p .author }
 
-abbrev pub popping : Popped → Popping
-popping p = record { answer = frontOf p; state = p .state }
+abbrev pub popParted : Popped → Popping
+popParted p = record { answer = popAnswerOf p; state = p .state }
 
-abbrev pub trimming : Trimmed → Trimming
-trimming p = record { answer = lastOf p; state = p .state }
+abbrev pub trimParted : Trimmed → Trimming
+trimParted p = record { answer = trimAnswerOf p; state = p .state }
 
 -- open, pop, commit, rollback, trim, close: each on the transaction that the one before left
 abbrev pub inTurn : ℕ → ℕ → List ℕ → AnchorsCacheTransaction → InTurn
@@ -35,10 +35,10 @@ inTurn n ct tables t =
     let closed = closeCall n tables (trimmed .state) in
     record {
       opened = opened .number;
-      popped = frontOf popped;
+      popped = popAnswerOf popped;
       committed = committed .number;
       «rolled_back» = rolled .number;
-      trimmed = lastOf trimmed;
+      trimmed = trimAnswerOf trimmed;
       closed = closed .number;
       state = closed .state;
     }

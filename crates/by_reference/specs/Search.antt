@@ -13,9 +13,9 @@ abbrev pub sameRoute : Route → ℤ → List ℕ → Bool
 sameRoute r workchain account = pick (equalℤ (r .workchain) workchain) (sameBytes (r .account) account) false
 
 -- the partition of the first route for the workchain and the account, or 0
-abbrev pub partitionOf : List Route → ℤ → List ℕ → ℕ
-partitionOf [] workchain account = 0
-partitionOf (r ∷ l) workchain account = pick (sameRoute r workchain account) (r .partition) (partitionOf l workchain account)
+abbrev pub firstPartitionIn : List Route → ℤ → List ℕ → ℕ
+firstPartitionIn [] workchain account = 0
+firstPartitionIn (r ∷ l) workchain account = pick (sameRoute r workchain account) (r .partition) (firstPartitionIn l workchain account)
 
 -- the records that rows of 34 bytes hold
 abbrev pub routeOf : List ℕ → Route
@@ -29,9 +29,9 @@ abbrev pub byteOf : ℤ → ℕ
 byteOf (pos n) = n
 byteOf (negsuc n) = 255 - n
 
-abbrev pub rowOf : Route → List ℕ
-rowOf r = byteOf (r .workchain) ∷ (r .account ++ (r .partition ∷ []))
+abbrev pub routeRow : Route → List ℕ
+routeRow r = byteOf (r .workchain) ∷ (r .account ++ (r .partition ∷ []))
 
 unfoldable pub rowsOf : List Route → List ℕ
 rowsOf [] = []
-rowsOf (r ∷ l) = rowOf r ++ rowsOf l
+rowsOf (r ∷ l) = routeRow r ++ rowsOf l

@@ -1,9 +1,10 @@
-// Calls that take a struct by reference, and a search in a slice of structs: thin functions over calls that go by value.
+// Calls that take a struct by reference, and a search in a slice of structs: thin functions over calls that go by
+// value.
 ghost use mathlib.Core.Path.{_≡_};
 ghost use lib.ListN.{length};
 ghost use Rattle.anchors_cache.specs.Calls.{popCall, trimCall, openCall, commitCall, rollbackCall, closeCall};
-ghost use Rattle.by_reference.specs.Answers.{frontOf, lastOf, popping, trimming, inTurn};
-ghost use Rattle.by_reference.specs.Search.{sameRoute, partitionOf};
+ghost use Rattle.by_reference.specs.Answers.{popAnswerOf, trimAnswerOf, popParted, trimParted, inTurn};
+ghost use Rattle.by_reference.specs.Search.{sameRoute, firstPartitionIn};
 use anchors_cache::AnchorAnswer;
 use anchors_cache::AnchorsCacheTransaction;
 use anchors_cache::InfoAnswer;
@@ -21,7 +22,7 @@ pub(crate) struct Trimming {
 }
 
 fn popped(tables: &[u8], area: &[u8], t: AnchorsCacheTransaction) -> Popping
-    ensures { λ r. ⌜ r ≡ popping (popCall (length (now (area .entry))) (now (tables .entry)) t) ⌝ }
+    ensures { λ r. ⌜ r ≡ popParted (popCall (length (now (area .entry))) (now (tables .entry)) t) ⌝ }
 {
     let p = anchors_cache::pop_front(tables, area, t);
     let front = p.front;
@@ -39,7 +40,7 @@ fn popped(tables: &[u8], area: &[u8], t: AnchorsCacheTransaction) -> Popping
 }
 
 fn trimmed(tables: &[u8], area: &[u8], ct: ChainTime, t: AnchorsCacheTransaction) -> Trimming
-    ensures { λ r. ⌜ r ≡ trimming (trimCall (length (now (area .entry))) (ct .0) (now (tables .entry)) t) ⌝ }
+    ensures { λ r. ⌜ r ≡ trimParted (trimCall (length (now (area .entry))) (ct .0) (now (tables .entry)) t) ⌝ }
 {
     let p = anchors_cache::remove_last_imported_above(tables, area, t, ct);
     let last = p.last;
@@ -56,7 +57,8 @@ fn trimmed(tables: &[u8], area: &[u8], ct: ChainTime, t: AnchorsCacheTransaction
     }
 }
 
-// Each of the six takes the transaction by reference and changes it: what the core leaves is stored behind `t`, the rest is the answer.
+// Each of the six takes the transaction by reference and changes it: what the core leaves is stored behind `t`, the
+// rest is the answer.
 // A refused call stores the transaction as it was.
 pub fn open(t: &mut AnchorsCacheTransaction, tables: &[u8], area: &[u8]) -> u8
     ensures { λ r. ⌜ (r ≡ openCall (length (now (area .entry))) (now (tables .entry)) (now (t .entry)) .number)
@@ -68,7 +70,7 @@ pub fn open(t: &mut AnchorsCacheTransaction, tables: &[u8], area: &[u8]) -> u8
 }
 
 pub fn pop_front(t: &mut AnchorsCacheTransaction, tables: &[u8], area: &[u8]) -> AnchorAnswer
-    ensures { λ r. ⌜ (r ≡ frontOf (popCall (length (now (area .entry))) (now (tables .entry)) (now (t .entry))))
+    ensures { λ r. ⌜ (r ≡ popAnswerOf (popCall (length (now (area .entry))) (now (tables .entry)) (now (t .entry))))
         × (now (t .exit) ≡ popCall (length (now (area .entry))) (now (tables .entry)) (now (t .entry)) .state) ⌝ }
 {
     let r = popped(tables, area, *t);
@@ -82,7 +84,7 @@ pub fn remove_last_imported_above(
     area: &[u8],
     ct: ChainTime,
 ) -> InfoAnswer
-    ensures { λ r. ⌜ (r ≡ lastOf (trimCall (length (now (area .entry))) (ct .0) (now (tables .entry)) (now (t .entry))))
+    ensures { λ r. ⌜ (r ≡ trimAnswerOf (trimCall (length (now (area .entry))) (ct .0) (now (tables .entry)) (now (t .entry))))
         × (now (t .exit) ≡ trimCall (length (now (area .entry))) (ct .0) (now (tables .entry)) (now (t .entry)) .state) ⌝ }
 {
     let r = trimmed(tables, area, ct, *t);
@@ -166,9 +168,10 @@ fn same_route(r: Route, workchain: i8, account: [u8; 32]) -> bool
     rows::starts_with(&a, &account)
 }
 
-// A lent slice of route records, searched in order: the partition of the first for the workchain and the account, else 0.
+// A lent slice of route records, searched in order: the partition of the first for the workchain and the account, else
+// 0.
 pub fn get_partition(routes: &[Route], workchain: i8, account: [u8; 32]) -> u8
-    ensures { λ p. ⌜ p ≡ partitionOf (now (routes .entry)) workchain account ⌝ }
+    ensures { λ p. ⌜ p ≡ firstPartitionIn (now (routes .entry)) workchain account ⌝ }
 {
     let mut i = 0;
     while i < routes.len() {
@@ -183,7 +186,7 @@ pub fn get_partition(routes: &[Route], workchain: i8, account: [u8; 32]) -> u8
 
 // Lends its own routes, for whoever has them by value.
 pub fn partition_of4(routes: [Route; 4], workchain: i8, account: [u8; 32]) -> u8
-    ensures { λ p. ⌜ p ≡ partitionOf routes workchain account ⌝ }
+    ensures { λ p. ⌜ p ≡ firstPartitionIn routes workchain account ⌝ }
 {
     get_partition(&routes, workchain, account)
 }

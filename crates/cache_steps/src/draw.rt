@@ -1,4 +1,5 @@
-// The numbers and anchors that the list draws. No sum of ids or chain times wraps in the list, so the wrapping sum is the sum.
+// The numbers and anchors that the list draws. No sum of ids or chain times wraps in the list, so the wrapping sum is
+// the sum.
 ghost use Prim.Native.Nat.{_<_};
 
 pub struct Drawn {

@@ -12,7 +12,6 @@ ghost use Prim.Native.Nat.{_≤_};
 
 mod digest;
 mod draw;
-mod text;
 
 // What goes from step to step; `at` is how much of the output buffer is filled.
 struct Run {
@@ -125,6 +124,12 @@ fn add_some(
     next
 }
 
+// A name and a number.
+fn put_field(out: &mut [u8; 65536], at: usize, name: &[u8], n: u64) -> usize {
+    let named = text::put(out, at, name);
+    text::put_number(out, named, n)
+}
+
 // Whether there is an anchor, as 1 or 0.
 fn one_if_found(front: FoundAnchor) -> u64 {
     let FoundAnchor::Anchor(_) = front else {
@@ -138,10 +143,7 @@ fn put_front(out: &mut [u8; 65536], at: usize, front: FoundAnchor) -> usize {
         return text::put(out, at, b" none\n");
     };
     let ct = a.chain_time;
-    let id = text::put_u32(out, at, a.id);
-    let time = text::put_number(out, id, ct.0);
-    let count = text::put_usize(out, time, a.count);
-    text::put(out, count, b"\n")
+    text::put_line(out, at, b"", &[a.id as u64, ct.0, a.count as u64])
 }
 
 fn pop_one(tables: &[u8], area: &[u8], out: &mut [u8; 65536], run: Run) -> Run {
@@ -149,7 +151,7 @@ fn pop_one(tables: &[u8], area: &[u8], out: &mut [u8; 65536], run: Run) -> Run {
     let popped = anchors_cache::pop_front(tables, area, t);
     let s = popped.state;
     let front = popped.front;
-    let named = text::put_field(out, run.at, b"pop", popped.number as u64);
+    let named = put_field(out, run.at, b"pop", popped.number as u64);
     let at = put_front(out, named, front);
     let mut next = run;
     next.t = s;
@@ -187,11 +189,9 @@ fn put_info(out: &mut [u8; 65536], at: usize, info: FoundInfo) -> usize {
         return text::put(out, at, b" none\n");
     };
     let ct = e.ct;
-    let id = text::put_u32(out, at, e.id);
-    let time = text::put_number(out, id, ct.0);
-    let all = text::put_u32(out, time, e.all_exts_count);
-    let ours = text::put_u32(out, all, e.our_exts_count);
-    text::put(out, ours, b"\n")
+    let all = e.all_exts_count as u64;
+    let ours = e.our_exts_count as u64;
+    text::put_line(out, at, b"", &[e.id as u64, ct.0, all, ours])
 }
 
 fn trim(tables: &[u8], area: &[u8], out: &mut [u8; 65536], run: Run, less: u64) -> Run {
@@ -200,7 +200,7 @@ fn trim(tables: &[u8], area: &[u8], out: &mut [u8; 65536], run: Run, less: u64) 
     let trimmed = anchors_cache::remove_last_imported_above(tables, area, t, ct);
     let s = trimmed.state;
     let last = trimmed.last;
-    let named = text::put_field(out, run.at, b"trim", trimmed.number as u64);
+    let named = put_field(out, run.at, b"trim", trimmed.number as u64);
     let at = put_info(out, named, last);
     let mut next = run;
     next.t = s;
@@ -262,11 +262,17 @@ fn step(
 // The line after each step.
 fn put_cache(out: &mut [u8; 65536], at: usize, c: AnchorsCache, digest: u32) -> usize {
     let pending = if c.pending { 1 } else { 0 };
-    let cached = text::put_field(out, at, b"cached", c.len as u64);
-    let history = text::put_field(out, cached, b" history", c.history_len as u64);
-    let flag = text::put_field(out, history, b" pending", pending);
-    let told = text::put_field(out, flag, b" digest", digest as u64);
+    let cached = put_field(out, at, b"cached", c.len as u64);
+    let history = put_field(out, cached, b" history", c.history_len as u64);
+    let flag = put_field(out, history, b" pending", pending);
+    let told = put_field(out, flag, b" digest", digest as u64);
     text::put(out, told, b"\n")
+}
+
+fn write_front(out: &[u8], at: usize) {
+    if at <= out.len() {
+        io::write_all(1, &out[0..at]);
+    }
 }
 
 // The longest step has 40 lines of `add` and its last line.
@@ -274,16 +280,13 @@ fn flushed(out: &[u8; 65536], at: usize) -> usize {
     if at < 61440 {
         return at;
     }
-    text::write_front(out, at);
+    write_front(out, at);
     0
 }
 
 fn finish(out: &mut [u8; 65536], run: Run) {
-    let adds = text::put_field(out, run.at, b"end", run.adds);
-    let refused = text::put_number(out, adds, run.refused);
-    let pops = text::put_number(out, refused, run.pops);
-    let at = text::put(out, pops, b"\n");
-    text::write_front(out, at);
+    let at = text::put_line(out, run.at, b"end", &[run.adds, run.refused, run.pops]);
+    write_front(out, at);
 }
 
 fn main() {

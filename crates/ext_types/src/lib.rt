@@ -18,6 +18,12 @@ pub struct ExternalKey {
     pub msgs_offset: u64,
 }
 
+// Before every anchor.
+pub const NO_KEY: ExternalKey = ExternalKey {
+    anchor_id: 0,
+    msgs_offset: 0,
+};
+
 // The timeout in chain time's unit. The age test takes chain times only, so no timeout comes to it but through here.
 pub fn to_millis(timeout: Seconds) -> ChainTime
     ensures { λ r. ⌜ r ≡ millisOf timeout ⌝ }

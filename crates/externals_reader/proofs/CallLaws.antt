@@ -12,36 +12,38 @@ use Rattle.rows.specs.Rows.{pick}
 use Rattle.rows.proofs.Laws.{pick-yes, pick-no}
 use Rattle.anchors_cache.specs.declared.AnchorsCacheTransaction.{AnchorsCacheTransaction}
 use Rattle.anchors_cache.proofs.Asked.{refusal-parts}
-use Rattle.range_reader.specs.Rules.{Outcome}
+use Rattle.range_rules.specs.Rules.{Outcome}
 use Rattle.range_reader.specs.Ready.{Wrote}
-use Rattle.range_reader.proofs.Numbers.{first-zero}
+use Rattle.messages_buffer.proofs.Laws.{first-zero}
 use Rattle.range_reader.proofs.CallLaws.{zeros}
-use Rattle.externals_reader.specs.declared.ExternalsReader.{ExternalsReader}
-use Rattle.externals_reader.specs.declared.GetNextMessageGroupMode.{GetNextMessageGroupMode}
+use Rattle.reader_rules.specs.declared.ExternalsReader.{ExternalsReader}
+use Rattle.reader_rules.specs.declared.GetNextMessageGroupMode.{GetNextMessageGroupMode}
 use Rattle.externals_reader.specs.declared.ReadIntoBuffers.{ReadIntoBuffers}
-use Rattle.externals_reader.specs.declared.Fixed.{Fixed}
-use Rattle.externals_reader.specs.declared.RangesRead.{RangesRead}
-use Rattle.externals_reader.specs.State.{settingsNumber}
-use Rattle.externals_reader.specs.Rules.{rangesRead}
-use Rattle.externals_reader.specs.Calls.{settledNumber, askedOfRead, fixedOf, atEntry, windowRead, importedIn, allRead, unchanged, allResult, readAllCall}
-use Rattle.externals_reader.specs.Locals.{answerOf}
+use Rattle.reader_rules.specs.declared.Fixed.{Fixed}
+use Rattle.reader_rules.specs.declared.RangesRead.{RangesRead}
+use Rattle.reader_rules.specs.State.{settingsNumber, maxRanges, maxOpenRanges, settledNumber}
+use Rattle.reader_rules.specs.Rules.{rangesRead, fixedOf, atEntry}
+use Rattle.externals_reader.specs.Calls.{askedOfRead, windowRead, importedIn, allRead, unchanged, allResult, readAllCall}
+use Rattle.externals_reader.specs.Locals.{readAnswered}
 use Rattle.externals_reader.specs.Ready.{Start}
 use Rattle.externals_reader.proofs.Sound.{sound-parts}
 use Rattle.externals_reader.proofs.TurnLaws.{window-fits, all-told, nothing-used}
+use Rattle.cache_rules.specs.Rules.{maxHistory}
+use Rattle.anchors_cache.specs.Tables.{tablesBytes}
 
 fits : (b : Bool) → _≡_ {A = ℕ} (pick b 0 4) 0 → b ≡ true
 fits true e = refl
 fits false e = absurd (omega arith)
 
 -- question 4 answered "yes" leaves the effective limit within 16
-effective-limit : (limits : List ℕ) (most : ℕ) → settingsNumber limits most ≡ 0 → pick (ltb most 2) 2 most ≤ 16
+effective-limit : (limits : List ℕ) (most : ℕ) → settingsNumber limits most ≡ 0 → pick (ltb most 2) 2 most ≤ maxRanges
 unfolding settingsNumber
 effective-limit limits most z = go (ltb most 2)
   where
-    small : most ≤ 16
-    small = leb-true most 16 (fits (leb most 16) (first-zero _ _ (first-zero _ _ z .1) .0))
+    small : most ≤ maxRanges
+    small = leb-true most maxOpenRanges (fits (leb most maxOpenRanges) (first-zero _ _ (first-zero _ _ z .1) .0))
 
-    go : (b : Bool) → pick b 2 most ≤ 16
+    go : (b : Bool) → pick b 2 most ≤ maxRanges
     go true = omega arith
     go false = small
 
@@ -55,7 +57,7 @@ module _ (tables area : List ℕ) (t : AnchorsCacheTransaction) (routes : List �
     asked = sym ne ∙ z
 
     -- question 5 answered "yes": the history stands in its table
-    pub call-history : (t .cache .«history_first» + t .cache .«history_len» ≤ 256) × (14912 ≤ length tables)
+    pub call-history : (t .cache .«history_first» + t .cache .«history_len» ≤ maxHistory) × (tablesBytes ≤ length tables)
     unfolding askedOfRead
     call-history =
         let p = refusal-parts (length area) tables t (first-zero _ _ (first-zero _ _ (first-zero _ _ (first-zero _ _ (first-zero _ _ asked .1) .1) .1) .1) .0) in
@@ -96,21 +98,21 @@ module _ (tables area : List ℕ) (t : AnchorsCacheTransaction) (routes : List �
         first : d ≡ whole .value
         first = w .value ∙ ap (λ (s : Outcome RangesRead). s .value) same
 
-        pub call-stopped : (d .number ≡ 0 → ⊥) → (q : ReadIntoBuffers) → q ≡ unchanged (d .number) reader t [] .answer → record { answer = q; out = o } ≡ readAllCall tables area t routes reader mode out
+        pub call-stopped : (d .«so_far» .number ≡ 0 → ⊥) → (q : ReadIntoBuffers) → q ≡ unchanged (d .«so_far» .number) reader t [] .answer → record { answer = q; out = o } ≡ readAllCall tables area t routes reader mode out
         call-stopped h q e =
             rw (e, w .out)
-            (sym (answered ∙ (ap (λ (v : RangesRead). pick (eqb (v .number) 0) (record { answer = answerOf tables area t reader v; out = sets out 0 (whole .entries) }) (unchanged (v .number) reader t out)) (sym first) ∙ pick-no (eqb (d .number) 0) _ _ (ne-eqb (d .number) 0 h))))
+            (sym (answered ∙ (ap (λ (v : RangesRead). pick (eqb (v .«so_far» .number) 0) (record { answer = readAnswered tables area t reader v; out = sets out 0 (whole .entries) }) (unchanged (v .«so_far» .number) reader t out)) (sym first) ∙ pick-no (eqb (d .«so_far» .number) 0) _ _ (ne-eqb (d .«so_far» .number) 0 h))))
 
-        pub call-done : d .number ≡ 0 → (r : RangesRead) (o′ : List ℕ) → Wrote true 0 o o′ r (rangesRead (windowRead tables area t routes x) x (atEntry (reader .«reader_state»))) → (q : ReadIntoBuffers) → q ≡ answerOf tables area t reader r
+        pub call-done : d .«so_far» .number ≡ 0 → (r : RangesRead) (o′ : List ℕ) → Wrote true 0 o o′ r (rangesRead (windowRead tables area t routes x) x (atEntry (reader .«reader_state»))) → (q : ReadIntoBuffers) → q ≡ readAnswered tables area t reader r
             → record { answer = q; out = o′ } ≡ readAllCall tables area t routes reader mode out
         call-done z r o′ v q e =
             let f : r ≡ whole .value = v .value ∙ ap (λ (s : Outcome RangesRead). s .value) same in
             let b : o′ ≡ sets out 0 (whole .entries) = v .out ∙ rw (w .out) (ap (λ (s : Outcome RangesRead). sets out 0 (s .entries)) same) in
             rw (e, b)
-            (sym (answered ∙ (ap (λ (v : RangesRead). pick (eqb (v .number) 0) (record { answer = answerOf tables area t reader v; out = sets out 0 (whole .entries) }) (unchanged (v .number) reader t out)) (sym f) ∙ pick-yes (eqb (r .number) 0) _ _ (eq-eqb (r .number) 0 (ap (λ (v : RangesRead). v .number) (f ∙ sym first) ∙ z)))))
+            (sym (answered ∙ (ap (λ (v : RangesRead). pick (eqb (v .«so_far» .number) 0) (record { answer = readAnswered tables area t reader v; out = sets out 0 (whole .entries) }) (unchanged (v .«so_far» .number) reader t out)) (sym f) ∙ pick-yes (eqb (r .«so_far» .number) 0) _ _ (eq-eqb (r .«so_far» .number) 0 (ap (λ (v : RangesRead). v .«so_far» .number) (f ∙ sym first) ∙ z)))))
 
         -- where the first run used no byte, it is the whole read
-        pub call-silent : length out < 2 ^ 64 → d .number ≡ 0 → d .used ≡ 0 → (q : ReadIntoBuffers) → q ≡ answerOf tables area t reader d → record { answer = q; out = o } ≡ readAllCall tables area t routes reader mode out
+        pub call-silent : length out < 2 ^ 64 → d .«so_far» .number ≡ 0 → d .«so_far» .used ≡ 0 → (q : ReadIntoBuffers) → q ≡ readAnswered tables area t reader d → record { answer = q; out = o } ≡ readAllCall tables area t routes reader mode out
         call-silent small z u = call-done z d o (nothing-used out o d _ w (all-told (windowRead tables area t routes x) (window-fits tables area t routes x) x false (atEntry (reader .«reader_state»)) out (call-start small)) u)
 
         -- the first run wrote nothing, so the second starts as the first did

@@ -1,4 +1,3 @@
-pub mod Each
 pub mod Sound
 pub mod Laws
 pub mod TurnLaws

@@ -10,53 +10,52 @@ use lib.ListN.{length, getD, take}
 use borrow.Author.Tests.{eqb-true, leb-true, lt-leb, le-leb}
 use Rattle.rows.specs.Rows.{pick, part}
 use Rattle.rows.proofs.Laws.{part-cons, and-true, pick-yes, pick-no}
-use Rattle.externals_reader.specs.declared.ExternalsReaderState.{ExternalsReaderState}
-use Rattle.externals_reader.specs.declared.ExternalsReader.{ExternalsReader}
-use Rattle.externals_reader.specs.Calls.{settledNumber}
-use Rattle.externals_reader.specs.State.{rangesNumber, noRange, heldRanges, rangeSound, soundFrom, stateNumber, settingsNumber}
+use Rattle.reader_rules.specs.declared.ExternalsReaderState.{ExternalsReaderState}
+use Rattle.reader_rules.specs.declared.ExternalsReader.{ExternalsReader}
+use Rattle.reader_rules.specs.State.{settledNumber, rangesNumber, noRange, heldRanges, rangeSound, soundRangesFrom, stateNumber, settingsNumber, maxRanges, maxOpenRanges}
 use Rattle.externals_reader.specs.Locals.{piecesNumber}
 use Rattle.messages_buffer.specs.Fullness.{firstNo, limitsNumber, partitionsNumber}
-use Rattle.range_reader.specs.declared.ExternalsRangeReaderState.{ExternalsRangeReaderState}
-use Rattle.range_reader.proofs.Numbers.{first-no, first-yes, first-alone}
+use Rattle.range_rules.specs.declared.ExternalsRangeReaderState.{ExternalsRangeReaderState}
+use Rattle.messages_buffer.proofs.Laws.{first-no, first-yes, first-alone}
 
 -- ---- the loop over the ranges
 module _ (xs : List ExternalsRangeReaderState) (low at left : ℕ) (h : 0 < left) (g : at + left ≤ length xs) where
-  sound-step : soundFrom low (part at left xs) ≡ rangeSound low (getD xs at noRange) && soundFrom (suc (getD xs at noRange .seqno)) (part (at + 1) (left - 1) xs)
-  unfolding soundFrom
+  sound-step : soundRangesFrom low (part at left xs) ≡ rangeSound low (getD xs at noRange) && soundRangesFrom (suc (getD xs at noRange .seqno)) (part (at + 1) (left - 1) xs)
+  unfolding soundRangesFrom
   sound-step = rw (part-cons noRange xs at left h g)
 
-  pub sound-fail : rangeSound low (getD xs at noRange) ≡ false → soundFrom low (part at left xs) ≡ false
-  sound-fail e = sound-step ∙ ap (λ (b : Bool). b && soundFrom (suc (getD xs at noRange .seqno)) (part (at + 1) (left - 1) xs)) e
+  pub sound-fail : rangeSound low (getD xs at noRange) ≡ false → soundRangesFrom low (part at left xs) ≡ false
+  sound-fail e = sound-step ∙ ap (λ (b : Bool). b && soundRangesFrom (suc (getD xs at noRange .seqno)) (part (at + 1) (left - 1) xs)) e
 
-  pub sound-next : rangeSound low (getD xs at noRange) ≡ true → soundFrom (getD xs at noRange .seqno + 1) (part (at + 1) (left - 1) xs) ≡ soundFrom low (part at left xs)
-  sound-next e = rw (add-one (getD xs at noRange .seqno)) (sym (sound-step ∙ ap (λ (b : Bool). b && soundFrom (suc (getD xs at noRange .seqno)) (part (at + 1) (left - 1) xs)) e))
+  pub sound-next : rangeSound low (getD xs at noRange) ≡ true → soundRangesFrom (getD xs at noRange .seqno + 1) (part (at + 1) (left - 1) xs) ≡ soundRangesFrom low (part at left xs)
+  sound-next e = rw (add-one (getD xs at noRange .seqno)) (sym (sound-step ∙ ap (λ (b : Bool). b && soundRangesFrom (suc (getD xs at noRange .seqno)) (part (at + 1) (left - 1) xs)) e))
 
-pub sound-end : (xs : List ExternalsRangeReaderState) (low at left : ℕ) → left ≤ 0 → soundFrom low (part at left xs) ≡ true
-unfolding soundFrom
+pub sound-end : (xs : List ExternalsRangeReaderState) (low at left : ℕ) → left ≤ 0 → soundRangesFrom low (part at left xs) ≡ true
+unfolding soundRangesFrom
 sound-end xs low at zero h = refl
 sound-end xs low at (suc n) h = absurd (omega arith)
 
 -- each of them has counts within the cap
-pub sound-counts : (low : ℕ) (l : List ExternalsRangeReaderState) → soundFrom low l ≡ true → (i : ℕ) → i < length l → partitionsNumber (getD l i noRange .«by_partitions») ≡ 0
-unfolding soundFrom
+pub sound-counts : (low : ℕ) (l : List ExternalsRangeReaderState) → soundRangesFrom low l ≡ true → (i : ℕ) → i < length l → partitionsNumber (getD l i noRange .«by_partitions») ≡ 0
+unfolding soundRangesFrom
 sound-counts low [] e i h = absurd (omega arith)
 sound-counts low (r ∷ l) e zero h = eqb-true _ _ (and-true (leb low (r .seqno)) _ (and-true (rangeSound low r) _ e .0) .1)
 sound-counts low (r ∷ l) e (suc i) h = sound-counts (suc (r .seqno)) l (and-true (rangeSound low r) _ e .1) i (omega arith)
 
 -- ---- question 5
 module _ (ranges : List ExternalsRangeReaderState) (len : ℕ) where
-  pub too-many-ranges : 16 < len → 5 ≡ rangesNumber ranges len
-  too-many-ranges h = rw (lt-leb len 16 h)
+  pub too-many-ranges : maxRanges < len → 5 ≡ rangesNumber ranges len
+  too-many-ranges h = rw (lt-leb len maxRanges h)
 
-  pub unsound-ranges : soundFrom 0 (take len ranges) ≡ false → 5 ≡ rangesNumber ranges len
-  unsound-ranges e = sym (pick-no _ _ _ (ap (λ (b : Bool). leb len 16 && b) e ∙ and-no (leb len 16)))
+  pub unsound-ranges : soundRangesFrom 0 (take len ranges) ≡ false → 5 ≡ rangesNumber ranges len
+  unsound-ranges e = sym (pick-no _ _ _ (ap (λ (b : Bool). leb len maxRanges && b) e ∙ and-no (leb len maxRanges)))
     where
       and-no : (b : Bool) → (b && false) ≡ false
       and-no true = refl
       and-no false = refl
 
-  pub sound-table : len ≤ 16 → soundFrom 0 (take len ranges) ≡ true → 0 ≡ rangesNumber ranges len
-  sound-table h e = sym (pick-yes _ _ _ (ap (λ (b : Bool). b && soundFrom 0 (take len ranges)) (le-leb len 16 h) ∙ e))
+  pub sound-table : len ≤ maxRanges → soundRangesFrom 0 (take len ranges) ≡ true → 0 ≡ rangesNumber ranges len
+  sound-table h e = sym (pick-yes _ _ _ (ap (λ (b : Bool). b && soundRangesFrom 0 (take len ranges)) (le-leb len maxRanges h) ∙ e))
 
 module _ (state : ExternalsReaderState) where
   pub by-ranges : rangesNumber (state .ranges) (state .len) ≡ stateNumber state
@@ -64,10 +63,10 @@ module _ (state : ExternalsReaderState) where
   by-ranges = refl
 
   -- what question 5 gives to a call that goes on
-  pub sound-parts : stateNumber state ≡ 0 → (state .len ≤ 16) × (soundFrom 0 (heldRanges state) ≡ true)
+  pub sound-parts : stateNumber state ≡ 0 → (state .len ≤ maxRanges) × (soundRangesFrom 0 (heldRanges state) ≡ true)
   unfolding stateNumber
   sound-parts e =
-      let p = and-true (leb (state .len) 16) (soundFrom 0 (heldRanges state)) (yes-0 _ e) in
+      let p = and-true (leb (state .len) maxRanges) (soundRangesFrom 0 (heldRanges state)) (yes-0 _ e) in
       (leb-true _ _ (p .0), p .1)
     where
       yes-0 : (b : Bool) → _≡_ {A = ℕ} (pick b 0 5) 0 → b ≡ true
@@ -85,12 +84,12 @@ module _ (limits : List ℕ) (most : ℕ) where
   limits-refused n e h = sym (rw (sym e) (first-no n _ h))
 
   module _ (limits-fit : limitsNumber limits ≡ 0) where
-    last-setting : settingsNumber limits most ≡ pick (leb most 16) 0 4
+    last-setting : settingsNumber limits most ≡ pick (leb most maxOpenRanges) 0 4
     unfolding settingsNumber
-    last-setting = first-yes _ _ limits-fit ∙ first-alone (pick (leb most 16) 0 4)
+    last-setting = first-yes _ _ limits-fit ∙ first-alone (pick (leb most maxOpenRanges) 0 4)
 
-    pub open-limit-refused : 16 < most → 4 ≡ settingsNumber limits most
-    open-limit-refused h = sym (last-setting ∙ pick-no _ _ _ (lt-leb most 16 h))
+    pub open-limit-refused : maxRanges < most → 4 ≡ settingsNumber limits most
+    open-limit-refused h = sym (last-setting ∙ pick-no _ _ _ (lt-leb most maxOpenRanges h))
 
-    pub settings-fit : most ≤ 16 → 0 ≡ settingsNumber limits most
-    settings-fit h = sym (last-setting ∙ pick-yes _ _ _ (le-leb most 16 h))
+    pub settings-fit : most ≤ maxRanges → 0 ≡ settingsNumber limits most
+    settings-fit h = sym (last-setting ∙ pick-yes _ _ _ (le-leb most maxOpenRanges h))

@@ -16,26 +16,28 @@ use Rattle.anchors_cache.specs.declared.AnchorsCacheTransaction.{AnchorsCacheTr
 use Rattle.anchors_cache.specs.declared.Done.{Done}
 use Rattle.anchors_cache.specs.Calls.{popsCall}
 use Rattle.range_reader.proofs.LocalLaws.{set-same}
-use Rattle.range_reader.specs.declared.ExternalsRangeReaderState.{ExternalsRangeReaderState}
-use Rattle.range_reader.specs.declared.ReadCounts.{ReadCounts}
+use Rattle.range_rules.specs.declared.ExternalsRangeReaderState.{ExternalsRangeReaderState}
+use Rattle.range_rules.specs.declared.ReadCounts.{ReadCounts}
 use Rattle.range_reader.specs.declared.ReadExternals.{ReadExternals}
-use Rattle.range_reader.specs.declared.RangeRead.{RangeRead}
-use Rattle.range_reader.specs.declared.ReadNextExternalsMode.{ReadNextExternalsMode}
-use Rattle.range_reader.specs.Rules.{Outcome, silent, followed}
-use Rattle.range_reader.specs.Ready.{Wrote, AtMost}
+use Rattle.range_rules.specs.declared.RangeRead.{RangeRead}
+use Rattle.range_rules.specs.declared.ReadNextExternalsMode.{ReadNextExternalsMode}
+use Rattle.range_rules.specs.Rules.{Outcome, silent, followed}
+use Rattle.range_rules.specs.Bounds.{AtMost}
+use Rattle.range_reader.specs.Ready.{Wrote}
 use Rattle.range_reader.specs.Calls.{ReadResult, askedNumber, rangeRead, refusedAnswer, doneResult, readCall, checkCall}
 use Rattle.range_reader.proofs.Bounds.{Bounded, every-answer-is-bounded, a-read-with-number-0-stores-its-entries}
-use Rattle.externals_reader.specs.declared.Fixed.{Fixed}
-use Rattle.externals_reader.specs.declared.RangesRead.{RangesRead}
-use Rattle.externals_reader.specs.declared.SoFar.{SoFar}
+use Rattle.reader_rules.specs.declared.Fixed.{Fixed}
+use Rattle.reader_rules.specs.declared.RangesRead.{RangesRead}
+use Rattle.reader_rules.specs.declared.SoFar.{SoFar}
 use Rattle.externals_reader.specs.declared.TurnDone.{TurnDone}
-use Rattle.externals_reader.specs.State.{noRange}
-use Rattle.externals_reader.specs.Each.{each}
-use Rattle.externals_reader.specs.Rules.{nextRange, isSkipped, modeFor, settled, sums, countsAdded, Told, numbered, notAllRead, afterTurn, OneRange, readTurn, turn, isOver, turns, appended, rangesRead, wantsNext}
+use Rattle.reader_rules.specs.State.{noRange, maxRanges}
+use Rattle.reader_rules.specs.Each.{each}
+use Rattle.reader_rules.specs.Rules.{nextRange, isSkipped, modeFor, settled, sums, countsAdded, Told, numbered, notAllRead, added, readOf, afterTurn, OneRange, readTurn, turn, isOver, turns, withNextRange, rangesRead, wantsNext}
 use Rattle.externals_reader.specs.Calls.{told, windowRead}
-use Rattle.externals_reader.specs.Locals.{readOf, turnDone}
-use Rattle.externals_reader.specs.Ready.{After, Ready, Start, TurnReady, RangeWrote, TurnWrote}
+use Rattle.externals_reader.specs.Locals.{turnDone}
+use Rattle.externals_reader.specs.Ready.{After, TurnRoom, Start, TurnReady, RangeWrote, TurnWrote}
 use Rattle.externals_reader.proofs.Laws.{next-below}
+use Rattle.cache_rules.specs.Rules.{maxAnchors, maxMessages}
 
 -- ---- one range's read, as the turn uses it
 module _ (tables area : List ℕ) (t : AnchorsCacheTransaction) (routes : List ℕ) (x : Fixed) (pops : ℕ) (mode : ReadNextExternalsMode) (range : ExternalsRangeReaderState) (out : List ℕ) where
@@ -122,16 +124,16 @@ module _ (ranges : List ExternalsRangeReaderState) (i : ℕ) (range : ExternalsR
 
   module _ (x : Fixed) (s : SoFar) (len : ℕ) (a : Told) where
     abbrev read-done : TurnDone
-    read-done = record { «so_far» = record { number = 0; pops = s .pops + a .pops; used = s .used + a .used; «all_read» = s .«all_read» && a .range .«fully_read»; stopped = a .full && not (a .range .«fully_read»); last = a .last; counts = countsAdded (s .counts) (a .counts) }; range = settled x (a .range) }
+    read-done = record { «so_far» = added s a; range = settled x (a .range) }
 
     abbrev refused-done : TurnDone
-    refused-done = record { «so_far» = record { number = a .number; pops = s .pops; used = s .used; «all_read» = s .«all_read»; stopped = s .stopped; last = s .last; counts = s .counts }; range = range }
+    refused-done = record { «so_far» = numbered (a .number) s; range = range }
 
     done-at : readOf (turnDone x s range a .«so_far») (set ranges i (turnDone x s range a .range)) len ≡ afterTurn x i (readOf s ranges len) a
     unfolding turnDone afterTurn
     done-at = go (eqb (a .number) 0)
       where
-        go : (b : Bool) → readOf (pick b read-done refused-done .«so_far») (set ranges i (pick b read-done refused-done .range)) len ≡ pick b (readOf (read-done .«so_far») (set ranges i (settled x (a .range))) len) (numbered (a .number) (readOf s ranges len))
+        go : (b : Bool) → readOf (pick b read-done refused-done .«so_far») (set ranges i (pick b read-done refused-done .range)) len ≡ pick b (readOf (read-done .«so_far») (set ranges i (settled x (a .range))) len) (readOf (numbered (a .number) s) ranges len)
         go true = refl
         go false = rw stays
 
@@ -171,7 +173,7 @@ module _ (one : OneRange) (x : Fixed) (i : ℕ) (r : RangesRead) where
   unfolding turn
   passes h = rw h
 
-  skips : range-i .«fully_read» ≡ false → isSkipped x range-i ≡ true → turn one x i r ≡ silent (notAllRead r)
+  skips : range-i .«fully_read» ≡ false → isSkipped x range-i ≡ true → turn one x i r ≡ silent (readOf (notAllRead (r .«so_far»)) (r .ranges) (r .len))
   unfolding turn
   skips h k = rw (h, k)
 
@@ -188,14 +190,14 @@ module _ (one : OneRange) (x : Fixed) (s : SoFar) (range : ExternalsRangeReaderS
   }
 
   pub turn-skipped : range .«fully_read» ≡ false → isSkipped x range ≡ true
-      → TurnWrote write one x s range out out (record { «so_far» = record { number = s .number; pops = s .pops; used = s .used; «all_read» = false; stopped = s .stopped; last = s .last; counts = s .counts }; range = range })
+      → TurnWrote write one x s range out out (record { «so_far» = notAllRead s; range = range })
   turn-skipped h k = record {
     at = λ ranges i len e.
         rw (stays ranges i range e, skips one x i (readOf s ranges len) (ap (λ (v : ExternalsRangeReaderState). v .«fully_read») e ∙ h) (ap (isSkipped x) e ∙ k))
         (record { value = refl; out = pick-same write _ _ refl });
   }
 
-module _ (tables area : List ℕ) (t : AnchorsCacheTransaction) (routes : List ℕ) (x : Fixed) (s : SoFar) (range : ExternalsRangeReaderState) (write : Bool) (out : List ℕ) (ready : Ready x s out)
+module _ (tables area : List ℕ) (t : AnchorsCacheTransaction) (routes : List ℕ) (x : Fixed) (s : SoFar) (range : ExternalsRangeReaderState) (write : Bool) (out : List ℕ) (ready : TurnRoom x s out)
     (p : Done) (pe : p ≡ popsCall (length area) (s .pops) tables t) (a : ReadExternals) (o : List ℕ)
     (w : RangeWrote write tables area (p .state) routes x range (midOf (s .used) (length out - s .used) out) o a) where
   abbrev rest : List ℕ
@@ -263,8 +265,8 @@ sums-at-most a b k m n f g h = each-at-most 8 (λ j. getD a j 0 + getD b j 0) n 
 
 -- what one range's read keeps within, and that it tells the bytes of its entries
 pub record Fits (room : ℕ) (s : Outcome Told) : Type 0 where
-  pub counts : AtMost 1024 (s .value .counts)
-  pub pops : s .value .pops ≤ 32
+  pub counts : AtMost maxMessages (s .value .counts)
+  pub pops : s .value .pops ≤ maxAnchors
   pub used : s .value .used ≤ room
   pub told-bytes : s .value .used ≡ length (s .entries)
   pub refused : eqb (s .value .number) 0 ≡ false → s .entries ≡ []
@@ -291,33 +293,34 @@ window-fits tables area t routes x pops mode range room =
           refused = f;
         }
 
--- a turn adds at most 1,024 to each count and 32 pops, keeps the used bytes in the room, and tells the bytes of its entries
+-- a turn adds at most 1,024 to each count and 32 pops, keeps the used bytes in the room, and tells the bytes of its
+-- entries
 module _ (one : OneRange) (fits : (pops : ℕ) (mode : ReadNextExternalsMode) (range : ExternalsRangeReaderState) (room : ℕ) → Fits room (one pops mode range room)) (x : Fixed) (i : ℕ) (r : RangesRead) where
   pub record Kept (k : ℕ) (s : Outcome RangesRead) : Type 0 where
     pub after : After k (x .room) (s .value)
-    pub bytes : s .value .used ≡ r .used + length (s .entries)
+    pub bytes : s .value .«so_far» .used ≡ r .«so_far» .used + length (s .entries)
     pub len : s .value .len ≡ r .len
 
   more : (k : ℕ) → After k (x .room) r → After (k + 1) (x .room) r
   more k a = record { few = record { read = λ j. omega (arith, a .few .read j); expired = λ j. omega (arith, a .few .expired j); buffered = λ j. omega (arith, a .few .buffered j) }; pops = omega (arith, a .pops); used = a .used }
 
-  added : (k : ℕ) → After k (x .room) r → (s : Outcome Told) → Fits (x .room - r .used) s → Kept (k + 1) (record { value = afterTurn x i r (s .value); entries = s .entries })
+  turn-added : (k : ℕ) → After k (x .room) r → (s : Outcome Told) → Fits (x .room - r .«so_far» .used) s → Kept (k + 1) (record { value = afterTurn x i r (s .value); entries = s .entries })
   unfolding afterTurn
-  added k a s f = go (eqb (s .value .number) 0) refl
+  turn-added k a s f = go (eqb (s .value .number) 0) refl
     where
-      go : (b : Bool) → eqb (s .value .number) 0 ≡ b → Kept (k + 1) (record { value = pick b (record { number = 0; pops = r .pops + s .value .pops; used = r .used + s .value .used; «all_read» = r .«all_read» && s .value .range .«fully_read»; stopped = s .value .full && not (s .value .range .«fully_read»); last = s .value .last; counts = countsAdded (r .counts) (s .value .counts); ranges = set (r .ranges) i (settled x (s .value .range)); len = r .len }) (numbered (s .value .number) r); entries = s .entries })
+      go : (b : Bool) → eqb (s .value .number) 0 ≡ b → Kept (k + 1) (record { value = pick b (readOf (added (r .«so_far») (s .value)) (set (r .ranges) i (settled x (s .value .range))) (r .len)) (readOf (numbered (s .value .number) (r .«so_far»)) (r .ranges) (r .len)); entries = s .entries })
       go true e =
           record {
             after = record {
               few = record {
-                read = sums-at-most (r .counts .read) (s .value .counts .read) (1024 * k) 1024 (1024 * (k + 1)) (a .few .read) (f .counts .read) (omega arith);
-                expired = sums-at-most (r .counts .expired) (s .value .counts .expired) (1024 * k) 1024 (1024 * (k + 1)) (a .few .expired) (f .counts .expired) (omega arith);
-                buffered = sums-at-most (r .counts .buffered) (s .value .counts .buffered) (1024 * k) 1024 (1024 * (k + 1)) (a .few .buffered) (f .counts .buffered) (omega arith);
+                read = sums-at-most (r .«so_far» .counts .read) (s .value .counts .read) (maxMessages * k) maxMessages (maxMessages * (k + 1)) (a .few .read) (f .counts .read) (omega arith);
+                expired = sums-at-most (r .«so_far» .counts .expired) (s .value .counts .expired) (maxMessages * k) maxMessages (maxMessages * (k + 1)) (a .few .expired) (f .counts .expired) (omega arith);
+                buffered = sums-at-most (r .«so_far» .counts .buffered) (s .value .counts .buffered) (maxMessages * k) maxMessages (maxMessages * (k + 1)) (a .few .buffered) (f .counts .buffered) (omega arith);
               };
               pops = omega (arith, a .pops, f .pops);
               used = omega (arith, a .used, f .used);
             };
-            bytes = ap (λ (n : ℕ). r .used + n) (f .told-bytes);
+            bytes = ap (λ (n : ℕ). r .«so_far» .used + n) (f .told-bytes);
             len = refl;
           }
       go false e = record { after = record { few = more k a .few; pops = more k a .pops; used = a .used }; bytes = omega (arith, ap (λ (l : List ℕ). length l) (f .refused e)); len = refl }
@@ -326,10 +329,10 @@ module _ (one : OneRange) (fits : (pops : ℕ) (mode : ReadNextExternalsMode) (r
   unfolding turn
   turn-kept k a = go (range-i one x i r .«fully_read») (isSkipped x (range-i one x i r))
     where
-      go : (b c : Bool) → Kept (k + 1) (pick b (silent r) (pick c (silent (notAllRead r)) (readTurn one x i r (range-i one x i r))))
+      go : (b c : Bool) → Kept (k + 1) (pick b (silent r) (pick c (silent (readOf (notAllRead (r .«so_far»)) (r .ranges) (r .len))) (readTurn one x i r (range-i one x i r))))
       go true c = record { after = more k a; bytes = omega arith; len = refl }
       go false true = record { after = record { few = more k a .few; pops = more k a .pops; used = a .used }; bytes = omega arith; len = refl }
-      go false false = added k a (one (r .pops) (modeFor x (range-i one x i r .seqno)) (range-i one x i r) (x .room - r .used)) (fits _ _ _ _)
+      go false false = turn-added k a (one (r .«so_far» .pops) (modeFor x (range-i one x i r .seqno)) (range-i one x i r) (x .room - r .«so_far» .used)) (fits _ _ _ _)
 
 -- ---- the loop over the ranges
 turns-step : (one : OneRange) (x : Fixed) (left i : ℕ) (s : Outcome RangesRead) → 0 < left → isOver (s .value) ≡ false → turns one x left i s ≡ turns one x (left - 1) (i + 1) (followed s (turn one x i (s .value)))
@@ -376,7 +379,7 @@ module _ (one : OneRange) (fits : (pops : ℕ) (mode : ReadNextExternalsMode) (r
     pub entries : List ℕ
     pub counted : i + left ≡ start .len
     pub after : After i (x .room) r
-    pub bytes : r .used ≡ length entries
+    pub bytes : r .«so_far» .used ≡ length entries
     pub len : r .len ≡ start .len
     pub wrote : out ≡ pick write (sets out₀ 0 entries) out₀
     pub walked : turns one x left i (record { value = r; entries = entries }) ≡ turns one x (start .len) 0 (silent start)
@@ -384,7 +387,7 @@ module _ (one : OneRange) (fits : (pops : ℕ) (mode : ReadNextExternalsMode) (r
   pub turning-start : Start x start out₀ → Turning start 0 (start .len) out₀
   turning-start s = record { entries = []; counted = omega arith; after = s .after; bytes = s .unused; len = refl; wrote = pick-same write out₀ out₀ refl; walked = refl }
 
-  pub turning-next : (r : RangesRead) (i left : ℕ) (out : List ℕ) → Turning r i left out → (eqb left 0 || isOver r) ≡ false → (q : RangesRead) (out′ : List ℕ) → Wrote write (r .used) out out′ q (turn one x i r) → Turning q (i + 1) (left - 1) out′
+  pub turning-next : (r : RangesRead) (i left : ℕ) (out : List ℕ) → Turning r i left out → (eqb left 0 || isOver r) ≡ false → (q : RangesRead) (out′ : List ℕ) → Wrote write (r .«so_far» .used) out out′ q (turn one x i r) → Turning q (i + 1) (left - 1) out′
   turning-next r i left out h g q out′ w =
       let p = left-some left (isOver r) g in
       let e = or-false (eqb left 0) (isOver r) g .1 in
@@ -396,7 +399,7 @@ module _ (one : OneRange) (fits : (pops : ℕ) (mode : ReadNextExternalsMode) (r
         after = rw (w .value) (k .after);
         bytes = rw (w .value) (k .bytes ∙ (ap (λ (n : ℕ). n + length (s .entries)) (h .bytes) ∙ sym (length-append (h .entries) (s .entries))));
         len = rw (w .value) (k .len ∙ h .len);
-        wrote = written-more write out₀ out out′ (h .entries) (s .entries) (r .used) (h .bytes) (h .wrote) (w .out);
+        wrote = written-more write out₀ out out′ (h .entries) (s .entries) (r .«so_far» .used) (h .bytes) (h .wrote) (w .out);
         walked = rw (w .value) (sym (turns-step one x left i (record { value = r; entries = h .entries }) p e) ∙ h .walked);
       }
 
@@ -406,19 +409,19 @@ module _ (one : OneRange) (fits : (pops : ℕ) (mode : ReadNextExternalsMode) (r
   pub turning-length : (r : RangesRead) (i left : ℕ) (out : List ℕ) → Turning r i left out → length out ≡ length out₀
   turning-length r i left out h = written-same write 0 out₀ out (h .entries) (h .wrote)
 
-  pub turning-slot : Start x start out₀ → (r : RangesRead) (i left : ℕ) (out : List ℕ) → Turning r i left out → (eqb left 0 || isOver r) ≡ false → i < 16
+  pub turning-slot : Start x start out₀ → (r : RangesRead) (i left : ℕ) (out : List ℕ) → Turning r i left out → (eqb left 0 || isOver r) ≡ false → i < maxRanges
   turning-slot st r i left out h e = omega (arith, h .counted, st .slots, left-some left (isOver r) e)
 
-  pub turning-ready : Start x start out₀ → (s : SoFar) (ranges : List ExternalsRangeReaderState) (len i left : ℕ) (out : List ℕ) → Turning (readOf s ranges len) i left out → Ready x s out
+  pub turning-ready : Start x start out₀ → (s : SoFar) (ranges : List ExternalsRangeReaderState) (len i left : ℕ) (out : List ℕ) → Turning (readOf s ranges len) i left out → TurnRoom x s out
   turning-ready st s ranges len i left out h =
-      let a = weaker i 16 (x .room) (readOf s ranges len) (omega (arith, h .counted, st .slots)) (h .after) in
+      let a = weaker i maxRanges (x .room) (readOf s ranges len) (omega (arith, h .counted, st .slots)) (h .after) in
       record { few = a .few; pops = a .pops; used = a .used; room = turning-length (readOf s ranges len) i left out h ∙ st .room; small = st .small }
 
 -- ---- all the turns
 module _ (one : OneRange) (fits : (pops : ℕ) (mode : ReadNextExternalsMode) (range : ExternalsRangeReaderState) (room : ℕ) → Fits room (one pops mode range room)) (x : Fixed) where
   record Told-bytes (k len : ℕ) (s : Outcome RangesRead) : Type 0 where
     after : After k (x .room) (s .value)
-    bytes : s .value .used ≡ length (s .entries)
+    bytes : s .value .«so_far» .used ≡ length (s .entries)
     same-len : s .value .len ≡ len
 
   turn-told : (k len i : ℕ) (s : Outcome RangesRead) → Told-bytes k len s → Told-bytes (k + 1) len (followed s (turn one x i (s .value)))
@@ -439,37 +442,37 @@ module _ (one : OneRange) (fits : (pops : ℕ) (mode : ReadNextExternalsMode) (r
       go false t = more-told (k + 1 + n) (k + suc n) len _ (omega arith) t
 
   module _ (r : RangesRead) where
-    used-kept : appended x r .used ≡ r .used
-    unfolding appended
+    used-kept : withNextRange x r .«so_far» .used ≡ r .«so_far» .used
+    unfolding withNextRange
     used-kept = refl
 
-    after-kept : (k : ℕ) → After k (x .room) r → After k (x .room) (appended x r)
-    unfolding appended
+    after-kept : (k : ℕ) → After k (x .room) r → After k (x .room) (withNextRange x r)
+    unfolding withNextRange
     after-kept k a = record { few = a .few; pops = a .pops; used = a .used }
 
   module _ (write : Bool) (start : RangesRead) (out₀ : List ℕ) (st : Start x start out₀) where
     abbrev whole : Outcome RangesRead
     whole = turns one x (start .len) 0 (silent start)
 
-    whole-told : Told-bytes 16 (start .len) whole
-    whole-told = more-told (0 + start .len) 16 (start .len) whole (omega (arith, st .slots)) (turns-told (start .len) 0 (start .len) 0 (silent start) (record { after = st .after; bytes = st .unused; same-len = refl }))
+    whole-told : Told-bytes maxRanges (start .len) whole
+    whole-told = more-told (0 + start .len) maxRanges (start .len) whole (omega (arith, st .slots)) (turns-told (start .len) 0 (start .len) 0 (silent start) (record { after = st .after; bytes = st .unused; same-len = refl }))
 
     -- with the next range's turn
     abbrev longer : Outcome RangesRead
-    longer = followed whole (turn one x (whole .value .len) (appended x (whole .value)))
+    longer = followed whole (turn one x (whole .value .len) (withNextRange x (whole .value)))
 
-    longer-told : longer .value .used ≡ length (longer .entries)
+    longer-told : longer .value .«so_far» .used ≡ length (longer .entries)
     longer-told =
-        let t = turn one x (whole .value .len) (appended x (whole .value)) in
-        turn-kept one fits x (whole .value .len) (appended x (whole .value)) 16 (after-kept (whole .value) 16 (whole-told .after)) .bytes
+        let t = turn one x (whole .value .len) (withNextRange x (whole .value)) in
+        turn-kept one fits x (whole .value .len) (withNextRange x (whole .value)) maxRanges (after-kept (whole .value) maxRanges (whole-told .after)) .bytes
         ∙ (ap (λ (n : ℕ). n + length (t .entries)) (used-kept (whole .value) ∙ whole-told .bytes) ∙ sym (length-append (whole .entries) (t .entries)))
 
     -- the bytes that the read of all tells are those of its entries
-    pub all-told : rangesRead one x start .value .used ≡ length (rangesRead one x start .entries)
+    pub all-told : rangesRead one x start .value .«so_far» .used ≡ length (rangesRead one x start .entries)
     unfolding rangesRead
     all-told = go (wantsNext x (whole .value))
       where
-        go : (b : Bool) → pick b longer whole .value .used ≡ length (pick b longer whole .entries)
+        go : (b : Bool) → pick b longer whole .value .«so_far» .used ≡ length (pick b longer whole .entries)
         go true = longer-told
         go false = whole-told .bytes
 
@@ -480,39 +483,39 @@ module _ (one : OneRange) (fits : (pops : ℕ) (mode : ReadNextExternalsMode) (r
       all-bytes : length out ≡ length out₀
       all-bytes = written-same write 0 out₀ out (whole .entries) (w .out)
 
-      pub next-room : wantsNext x (readOf s ranges len) ≡ true → len < 16
+      pub next-room : wantsNext x (readOf s ranges len) ≡ true → len < maxRanges
       next-room h = omega (arith, st .limit, next-below x now h)
 
-      pub next-ready : Ready x s out
+      pub next-ready : TurnRoom x s out
       next-ready =
-          let a : After 16 (x .room) now = rw (w .value) (whole-told .after) in
+          let a : After maxRanges (x .room) now = rw (w .value) (whole-told .after) in
           record { few = a .few; pops = a .pops; used = a .used; room = all-bytes ∙ st .room; small = st .small }
 
       pub all-done : wantsNext x (readOf s ranges len) ≡ false → Wrote write 0 out₀ out (readOf s ranges len) (rangesRead one x start)
       unfolding rangesRead
       all-done h = rw (pick-no (wantsNext x (whole .value)) longer whole (ap (wantsNext x) (sym (w .value)) ∙ h)) (record { value = w .value; out = w .out })
 
-      appended-at : (range : ExternalsRangeReaderState) → range ≡ nextRange (x .«block_seqno») (x .«next_chain_time») (x .«by_partitions») ranges len → readOf s (set ranges len range) (len + 1) ≡ appended x (readOf s ranges len)
-      unfolding appended
+      appended-at : (range : ExternalsRangeReaderState) → range ≡ nextRange (x .«block_seqno») (x .«next_chain_time») (x .«by_partitions») ranges len → readOf s (set ranges len range) (len + 1) ≡ withNextRange x (readOf s ranges len)
+      unfolding withNextRange
       appended-at range e = ap (λ (y : ExternalsRangeReaderState). readOf s (set ranges len y) (len + 1)) e
 
-      pub next-done : wantsNext x (readOf s ranges len) ≡ true → length ranges ≡ 16 → (range : ExternalsRangeReaderState) → range ≡ nextRange (x .«block_seqno») (x .«next_chain_time») (x .«by_partitions») ranges len
+      pub next-done : wantsNext x (readOf s ranges len) ≡ true → length ranges ≡ maxRanges → (range : ExternalsRangeReaderState) → range ≡ nextRange (x .«block_seqno») (x .«next_chain_time») (x .«by_partitions») ranges len
           → (q : TurnDone) (out′ : List ℕ) → TurnWrote write one x s range out out′ q → Wrote write 0 out₀ out′ (readOf (q .«so_far») (set ranges len (q .range)) (len + 1)) (rangesRead one x start)
       unfolding rangesRead
       next-done h long range re q out′ v =
-          let e : readOf s (set ranges len range) (len + 1) ≡ appended x now = appended-at range re in
+          let e : readOf s (set ranges len range) (len + 1) ≡ withNextRange x now = appended-at range re in
           let z = v .at (set ranges len range) len (len + 1) (getD-set-same ranges len range noRange (omega (arith, long, next-room h))) in
-          let f : turn one x len (readOf s (set ranges len range) (len + 1)) ≡ turn one x (whole .value .len) (appended x (whole .value)) = ap (turn one x len) e ∙ ap (λ (y : RangesRead). turn one x (y .len) (appended x y)) (w .value) in
-          let u : s .used ≡ length (whole .entries) = ap (λ (y : RangesRead). y .used) (w .value) ∙ whole-told .bytes in
+          let f : turn one x len (readOf s (set ranges len range) (len + 1)) ≡ turn one x (whole .value .len) (withNextRange x (whole .value)) = ap (turn one x len) e ∙ ap (λ (y : RangesRead). turn one x (y .len) (withNextRange x y)) (w .value) in
+          let u : s .used ≡ length (whole .entries) = ap (λ (y : RangesRead). y .«so_far» .used) (w .value) ∙ whole-told .bytes in
           rw (pick-yes (wantsNext x (whole .value)) longer whole (ap (wantsNext x) (sym (w .value)) ∙ h))
           (record {
             value = ap (λ (l : List ExternalsRangeReaderState). readOf (q .«so_far») l (len + 1)) (sym (set-set ranges len range (q .range))) ∙ (z .value ∙ ap (λ (t : Outcome RangesRead). t .value) f);
-            out = written-more write out₀ out out′ (whole .entries) (turn one x (whole .value .len) (appended x (whole .value)) .entries) (s .used) u (w .out) (z .out ∙ ap (λ (t : Outcome RangesRead). pick write (sets out (s .used) (t .entries)) out) f);
+            out = written-more write out₀ out out′ (whole .entries) (turn one x (whole .value .len) (withNextRange x (whole .value)) .entries) (s .used) u (w .out) (z .out ∙ ap (λ (t : Outcome RangesRead). pick write (sets out (s .used) (t .entries)) out) f);
           })
 
 -- a first run that used no byte has written what a second one would
-pub nothing-used : (out o : List ℕ) (r : RangesRead) (s : Outcome RangesRead) → Wrote false 0 out o r s → s .value .used ≡ length (s .entries) → r .used ≡ 0 → Wrote true 0 o o r s
-nothing-used out o r s w e z = record { value = w .value; out = sym (ap (sets o 0) (none (s .entries) (sym e ∙ (ap (λ (q : RangesRead). q .used) (sym (w .value)) ∙ z)))) }
+pub nothing-used : (out o : List ℕ) (r : RangesRead) (s : Outcome RangesRead) → Wrote false 0 out o r s → s .value .«so_far» .used ≡ length (s .entries) → r .«so_far» .used ≡ 0 → Wrote true 0 o o r s
+nothing-used out o r s w e z = record { value = w .value; out = sym (ap (sets o 0) (none (s .entries) (sym e ∙ (ap (λ (q : RangesRead). q .«so_far» .used) (sym (w .value)) ∙ z)))) }
   where
     none : (l : List ℕ) → length l ≡ 0 → l ≡ []
     none [] h = refl

@@ -1,122 +1,52 @@
 -- What each public call answers, for every argument.
 use Prim.Native.Nat.{ℕ}
-use mathlib.Core.Bool.{Bool, true, false}
+use mathlib.Core.Bool.{Bool, false}
 use mathlib.Core.List.{List, [], _∷_, map}
-use lib.Dec.{leb, eqb}
+use lib.Dec.{eqb}
 use lib.ListN.{length, replicate}
 use lib.Seq.{sets}
 use Rattle.rows.specs.Rows.{pick}
+use Rattle.reader_rules.specs.State.{settledNumber, readerNumber, allQuestions, withState, withMark, withLimits, withLast, stateNumber}
+use Rattle.reader_rules.specs.Rules.{stateEntered, fixedOf, atEntry, rangeFrom, nextRange, Told, OneRange, rangesRead, timeSaved}
 use Rattle.ext_types.specs.declared.ChainTime.{ChainTime}
 use Rattle.shard_ident.specs.declared.ShardIdent.{ShardIdent}
-use Rattle.shard_ident.specs.Shard.{shardNumber}
-use Rattle.router.specs.Router.{routesNumber}
 use Rattle.messages_buffer.specs.Fullness.{firstNo, noPartition}
 use Rattle.anchors_cache.specs.declared.AnchorsCacheTransaction.{AnchorsCacheTransaction}
 use Rattle.anchors_cache.specs.declared.FoundInfo.{FoundInfo}
 use Rattle.anchors_cache.specs.declared.FoundInfo.the-variants as found
-use Rattle.anchors_cache.specs.Rules.{ask, lastOf}
+use Rattle.cache_rules.specs.Rules.{lastOf}
 use Rattle.anchors_cache.specs.Tables.{historyOf}
 use Rattle.anchors_cache.specs.declared.AnchorsCache.{AnchorsCache}
-use Rattle.anchors_cache.specs.Calls.{areaBytes, refusal, popsCall, infoFound}
-use Rattle.range_reader.specs.declared.ExternalsRangeReaderState.{ExternalsRangeReaderState}
+use Rattle.anchors_cache.specs.Calls.{refusal, popsCall, infoFound}
+use Rattle.range_rules.specs.declared.ExternalsRangeReaderState.{ExternalsRangeReaderState}
 use Rattle.range_reader.specs.declared.ReadExternals.{ReadExternals}
-use Rattle.range_reader.specs.declared.RangeRead.{RangeRead}
-use Rattle.range_reader.specs.declared.ProcessedTo.{ProcessedTo}
-use Rattle.range_reader.specs.declared.LastChainTime.{LastChainTime}
-use Rattle.range_reader.specs.declared.LastChainTime.the-variants.{Nothing}
-use Rattle.range_reader.specs.Rules.{Outcome, silent, keyAt, noKey}
-use Rattle.range_reader.specs.Calls.{askedNumber, rangeRead, noCounts, refusedAnswer, doneAnswer}
-use Rattle.externals_reader.specs.declared.ExternalsPartitionReaderState.{ExternalsPartitionReaderState}
-use Rattle.externals_reader.specs.declared.ExternalsReaderState.{ExternalsReaderState}
-use Rattle.externals_reader.specs.declared.MsgsExecutionParams.{MsgsExecutionParams}
-use Rattle.externals_reader.specs.declared.ExternalsReader.{ExternalsReader}
-use Rattle.externals_reader.specs.declared.GetNextMessageGroupMode.{GetNextMessageGroupMode}
+use Rattle.range_rules.specs.declared.RangeRead.{RangeRead}
+use Rattle.range_rules.specs.declared.LastChainTime.the-variants.{Nothing}
+use Rattle.range_rules.specs.Rules.{Outcome, silent, keyAt, noKey, noCounts}
+use Rattle.range_reader.specs.Calls.{askedNumber, rangeRead, refusedAnswer, doneAnswer}
+use Rattle.reader_rules.specs.declared.ExternalsPartitionReaderState.{ExternalsPartitionReaderState}
+use Rattle.reader_rules.specs.declared.ExternalsReaderState.{ExternalsReaderState}
+use Rattle.reader_rules.specs.declared.MsgsExecutionParams.{MsgsExecutionParams}
+use Rattle.reader_rules.specs.declared.ExternalsReader.{ExternalsReader}
+use Rattle.reader_rules.specs.declared.GetNextMessageGroupMode.{GetNextMessageGroupMode}
 use Rattle.externals_reader.specs.declared.ReaderDone.{ReaderDone}
 use Rattle.externals_reader.specs.declared.PartitionIds.{PartitionIds}
 use Rattle.externals_reader.specs.declared.NextRange.{NextRange}
 use Rattle.externals_reader.specs.declared.ReadIntoBuffers.{ReadIntoBuffers}
-use Rattle.externals_reader.specs.declared.Imported.{Imported}
-use Rattle.externals_reader.specs.declared.Imported.the-variants as imported
-use Rattle.externals_reader.specs.declared.Fixed.{Fixed}
-use Rattle.externals_reader.specs.declared.RangesRead.{RangesRead}
-use Rattle.externals_reader.specs.State.{stateNumber, settingsNumber}
-use Rattle.externals_reader.specs.Rules.{partitionsEntered, rangesEntered, rangeFrom, nextRange, Told, OneRange, rangesRead, later}
-
--- ---- the reader changed in one place
-abbrev pub withState : ExternalsReader → ExternalsReaderState → ExternalsReader
-withState r s =
-    record {
-      «for_shard_id» = r .«for_shard_id»;
-      «block_seqno» = r .«block_seqno»;
-      «next_chain_time» = r .«next_chain_time»;
-      «msgs_exec_params» = r .«msgs_exec_params»;
-      «buffer_limits_by_partitions» = r .«buffer_limits_by_partitions»;
-      «reader_state» = s;
-      «all_ranges_fully_read» = r .«all_ranges_fully_read»;
-    }
-
-abbrev pub withMark : ExternalsReader → Bool → ExternalsReader
-withMark r mark =
-    record {
-      «for_shard_id» = r .«for_shard_id»;
-      «block_seqno» = r .«block_seqno»;
-      «next_chain_time» = r .«next_chain_time»;
-      «msgs_exec_params» = r .«msgs_exec_params»;
-      «buffer_limits_by_partitions» = r .«buffer_limits_by_partitions»;
-      «reader_state» = r .«reader_state»;
-      «all_ranges_fully_read» = mark;
-    }
-
-abbrev pub withLimits : ExternalsReader → List ℕ → ExternalsReader
-withLimits r limits =
-    record {
-      «for_shard_id» = r .«for_shard_id»;
-      «block_seqno» = r .«block_seqno»;
-      «next_chain_time» = r .«next_chain_time»;
-      «msgs_exec_params» = r .«msgs_exec_params»;
-      «buffer_limits_by_partitions» = limits;
-      «reader_state» = r .«reader_state»;
-      «all_ranges_fully_read» = r .«all_ranges_fully_read»;
-    }
-
-abbrev pub withLast : ExternalsReaderState → LastChainTime → ExternalsReaderState
-withLast s last = record { ranges = s .ranges; len = s .len; «by_partitions» = s .«by_partitions»; «last_read_to_anchor_chain_time» = last }
+use Rattle.reader_rules.specs.declared.Imported.{Imported}
+use Rattle.reader_rules.specs.declared.Imported.the-variants as imported
+use Rattle.reader_rules.specs.declared.Fixed.{Fixed}
+use Rattle.reader_rules.specs.declared.RangesRead.{RangesRead}
 
 -- a refusal gives only the number
 abbrev pub changed : ℕ → ExternalsReader → ExternalsReader → ReaderDone
 changed number before after = record { number = number; reader = pick (eqb number 0) after before }
 
 -- ---- questions
--- questions 4 and 5
-unfoldable pub settledNumber : ExternalsReader → ℕ
-settledNumber r = firstNo (settingsNumber (r .«buffer_limits_by_partitions») (r .«msgs_exec_params» .«open_ranges_limit») ∷ stateNumber (r .«reader_state») ∷ [])
-
--- questions 2, 4 and 5
-unfoldable pub readerNumber : ExternalsReader → ℕ
-readerNumber r = firstNo (shardNumber (r .«for_shard_id») ∷ settledNumber r ∷ [])
-
--- questions 1, 2, 3, 4, 5 and 9
 unfoldable pub askedOfRead : List ℕ → List ℕ → AnchorsCacheTransaction → List ℕ → ExternalsReader → ℕ
-askedOfRead tables area t routes r =
-    firstNo
-    (ask 1 (leb areaBytes (length area)) 0
-    ∷ shardNumber (r .«for_shard_id»)
-    ∷ routesNumber routes
-    ∷ settledNumber r
-    ∷ refusal (length area) tables t
-    ∷ ask 9 (t .active) 0
-    ∷ [])
+askedOfRead tables area t routes r = allQuestions (length area) routes r (refusal (length area) tables t) (t .active)
 
 -- ---- the calls but the read
-abbrev pub stateEntered : List ℕ → ExternalsReaderState → ExternalsReaderState
-stateEntered limits s =
-    record {
-      ranges = rangesEntered (s .len) (s .ranges);
-      len = s .len;
-      «by_partitions» = partitionsEntered limits (s .«by_partitions»);
-      «last_read_to_anchor_chain_time» = s .«last_read_to_anchor_chain_time»;
-    }
-
 abbrev pub handedIn : ShardIdent → ℕ → ChainTime → MsgsExecutionParams → List ℕ → ExternalsReaderState → ExternalsReader
 handedIn shard seqno time params limits state =
     record {
@@ -162,41 +92,9 @@ nextRangeCall r =
     }
 
 -- ---- the read
-abbrev pub processedOf : ExternalsPartitionReaderState → ProcessedTo
-processedOf p = record { key = p .«processed_to»; present = p .present }
-
 abbrev pub endOf : FoundInfo → Imported
 endOf found.Nothing = imported.Nothing
 endOf (found.Info i) = imported.End (keyAt (i .id) (i .«all_exts_count»))
-
-abbrev pub fixedOf : ExternalsReader → GetNextMessageGroupMode → Imported → ℕ → Fixed
-fixedOf r mode end room =
-    record {
-      shard = r .«for_shard_id»;
-      «block_seqno» = r .«block_seqno»;
-      «next_chain_time» = r .«next_chain_time»;
-      params = r .«msgs_exec_params»;
-      limits = r .«buffer_limits_by_partitions»;
-      mode = mode;
-      «by_partitions» = r .«reader_state» .«by_partitions»;
-      processed = map processedOf (r .«reader_state» .«by_partitions»);
-      imported = end;
-      room = room;
-    }
-
-abbrev pub atEntry : ExternalsReaderState → RangesRead
-atEntry s =
-    record {
-      number = 0;
-      pops = 0;
-      used = 0;
-      «all_read» = true;
-      stopped = false;
-      last = Nothing;
-      counts = noCounts;
-      ranges = s .ranges;
-      len = s .len;
-    }
 
 abbrev pub told : ReadExternals → Told
 told a =
@@ -238,9 +136,9 @@ readerAfter r q =
       ranges = q .ranges;
       len = q .len;
       «by_partitions» = r .«reader_state» .«by_partitions»;
-      «last_read_to_anchor_chain_time» = later (q .last) (r .«reader_state» .«last_read_to_anchor_chain_time»);
+      «last_read_to_anchor_chain_time» = timeSaved (q .«so_far» .last) (r .«reader_state» .«last_read_to_anchor_chain_time»);
     }))
-    (q .«all_read»)
+    (q .«so_far» .«all_read»)
 
 -- the answer, and the lent output's bytes
 pub record ReadAllResult : Type 0 where
@@ -254,12 +152,12 @@ unchanged number r t out = record { answer = record { number = number; used = 0;
 abbrev pub allResult : List ℕ → List ℕ → AnchorsCacheTransaction → ExternalsReader → Outcome RangesRead → List ℕ → ReadAllResult
 allResult tables area t r s out =
     let q = s .value in
-    pick (eqb (q .number) 0)
+    pick (eqb (q .«so_far» .number) 0)
     (record {
-      answer = record { number = 0; used = q .used; counts = q .counts; reader = readerAfter r q; state = popsCall (length area) (q .pops) tables t .state };
+      answer = record { number = 0; used = q .«so_far» .used; counts = q .«so_far» .counts; reader = readerAfter r q; state = popsCall (length area) (q .«so_far» .pops) tables t .state };
       out = sets out 0 (s .entries);
     })
-    (unchanged (q .number) r t out)
+    (unchanged (q .«so_far» .number) r t out)
 
 -- "Nothing is done once "all ranges read" is set", and the questions are asked before
 unfoldable pub readAllCall : List ℕ → List ℕ → AnchorsCacheTransaction → List ℕ → ExternalsReader → GetNextMessageGroupMode → List ℕ → ReadAllResult

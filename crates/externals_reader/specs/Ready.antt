@@ -6,18 +6,19 @@ use mathlib.Core.List.{List}
 use lib.ListN.{length, getD, set}
 use Rattle.rows.specs.Rows.{pick}
 use Rattle.anchors_cache.specs.declared.AnchorsCacheTransaction.{AnchorsCacheTransaction}
-use Rattle.range_reader.specs.declared.ReadCounts.{ReadCounts}
+use Rattle.range_rules.specs.declared.ReadCounts.{ReadCounts}
 use Rattle.range_reader.specs.declared.ReadExternals.{ReadExternals}
-use Rattle.range_reader.specs.declared.ExternalsRangeReaderState.{ExternalsRangeReaderState}
-use Rattle.range_reader.specs.Ready.{Wrote, AtMost}
+use Rattle.range_rules.specs.declared.ExternalsRangeReaderState.{ExternalsRangeReaderState}
+use Rattle.range_rules.specs.Bounds.{AtMost}
+use Rattle.range_reader.specs.Ready.{Wrote}
 use Rattle.range_reader.specs.Calls.{readCall}
-use Rattle.externals_reader.specs.declared.Fixed.{Fixed}
-use Rattle.externals_reader.specs.declared.RangesRead.{RangesRead}
-use Rattle.externals_reader.specs.declared.SoFar.{SoFar}
+use Rattle.reader_rules.specs.declared.Fixed.{Fixed}
+use Rattle.reader_rules.specs.declared.RangesRead.{RangesRead}
+use Rattle.reader_rules.specs.declared.SoFar.{SoFar}
 use Rattle.externals_reader.specs.declared.TurnDone.{TurnDone}
-use Rattle.externals_reader.specs.State.{noRange, openRangesLimit}
-use Rattle.externals_reader.specs.Rules.{modeFor, OneRange, turn}
-use Rattle.externals_reader.specs.Locals.{readOf}
+use Rattle.reader_rules.specs.State.{noRange, openRangesLimit, maxRanges}
+use Rattle.reader_rules.specs.Rules.{modeFor, OneRange, turn, readOf}
+use Rattle.cache_rules.specs.Rules.{maxAnchors, maxMessages}
 
 -- no sum of two counts leaves 32 bits
 pub record Addable (a b : ReadCounts) : Type 0 where
@@ -27,23 +28,23 @@ pub record Addable (a b : ReadCounts) : Type 0 where
 
 -- after k turns: at most 1,024 messages and 32 pops for each
 pub record After (k room : ℕ) (r : RangesRead) : Type 0 where
-  pub few : AtMost (1024 * k) (r .counts)
-  pub pops : r .pops ≤ 32 * k
-  pub used : r .used ≤ room
+  pub few : AtMost (maxMessages * k) (r .«so_far» .counts)
+  pub pops : r .«so_far» .pops ≤ maxAnchors * k
+  pub used : r .«so_far» .used ≤ room
 
 -- a range's turn
-pub record Ready (x : Fixed) (s : SoFar) (out : List ℕ) : Type 0 where
-  pub few : AtMost 16384 (s .counts)
-  pub pops : s .pops ≤ 512
+pub record TurnRoom (x : Fixed) (s : SoFar) (out : List ℕ) : Type 0 where
+  pub few : AtMost (maxMessages * maxRanges) (s .counts)
+  pub pops : s .pops ≤ maxAnchors * maxRanges
   pub used : s .used ≤ x .room
   pub room : length out ≡ x .room
   pub small : x .room < 2 ^ 64
 
 pub record Start (x : Fixed) (r : RangesRead) (out : List ℕ) : Type 0 where
   pub after : After 0 (x .room) r
-  pub unused : r .used ≡ 0
-  pub slots : r .len ≤ 16
-  pub limit : openRangesLimit (x .params) ≤ 16
+  pub unused : r .«so_far» .used ≡ 0
+  pub slots : r .len ≤ maxRanges
+  pub limit : openRangesLimit (x .params) ≤ maxRanges
   pub room : length out ≡ x .room
   pub small : x .room < 2 ^ 64
 

@@ -3,69 +3,31 @@
 ghost use Prim.Native.Nat.{_<_, _^_};
 ghost use mathlib.Core.Path.{_≡_};
 ghost use mathlib.Core.List.{[]};
-ghost use Rattle.externals_reader.specs.State.{stateNumber, settingsNumber, openRangesLimit};
-ghost use Rattle.externals_reader.specs.Calls.{withState, withMark, handedIn, newCall, resetCall, dropLastCall, setLimitsCall, partitionIdsCall, nextRangeCall, fixedOf, unchanged, readerAfter, readAllCall};
-ghost use Rattle.externals_reader.specs.Locals.{answerOf};
+ghost use Rattle.reader_rules.specs.State.{stateNumber, settingsNumber, openRangesLimit, withState, withMark};
+ghost use Rattle.externals_reader.specs.Calls.{handedIn, newCall, resetCall, dropLastCall, setLimitsCall, partitionIdsCall, nextRangeCall, unchanged, readerAfter, readAllCall};
+ghost use Rattle.reader_rules.specs.Rules.{fixedOf};
+ghost use Rattle.externals_reader.specs.Locals.{readAnswered};
 use anchors_cache::AnchorsCacheTransaction;
 use ext_types::ChainTime;
-use ext_types::ExternalKey;
-use ext_types::Seconds;
-use messages_buffer::ExternalsPartitionRangeReaderState;
-use range_reader::ExternalsRangeReaderState;
-use range_reader::LastChainTime;
-use range_reader::ProcessedTo;
-use range_reader::ReadCounts;
+use range_rules::ExternalsRangeReaderState;
+use range_rules::LastChainTime;
+use range_rules::NO_COUNTS;
+use range_rules::ReadCounts;
+use reader_rules::ExternalsReader;
+use reader_rules::ExternalsReaderState;
+use reader_rules::Fixed;
+use reader_rules::GetNextMessageGroupMode;
+use reader_rules::Imported;
+use reader_rules::MAX_OPEN_RANGES;
+use reader_rules::MsgsExecutionParams;
+use reader_rules::RangesRead;
+use reader_rules::SoFar;
 use shard_ident::ShardIdent;
 
 mod next;
 mod questions;
 mod ranges;
 mod turns;
-
-// The most ranges that a reader holds.
-pub const RANGES_CAP: usize = 16;
-
-// The most that the open-ranges limit may be.
-pub const OPEN_RANGES_CAP: u8 = 16;
-
-// The reader's record of a partition. Where it is not present its numbers are free.
-#[repr(C)]
-pub struct ExternalsPartitionReaderState {
-    pub processed_to: ExternalKey,
-    pub curr_processed_offset: u32,
-    pub present: bool,
-}
-
-// `len` ranges, by rising seqno; the slots behind them are free.
-pub struct ExternalsReaderState {
-    pub ranges: [ExternalsRangeReaderState; 16],
-    pub len: usize,
-    pub by_partitions: [ExternalsPartitionReaderState; 8],
-    pub last_read_to_anchor_chain_time: LastChainTime,
-}
-
-// `new_is_some`: new settings wait.
-#[repr(C)]
-pub struct MsgsExecutionParams {
-    pub externals_expire_timeout: Seconds,
-    pub open_ranges_limit: u8,
-    pub new_is_some: bool,
-}
-
-pub struct ExternalsReader {
-    pub for_shard_id: ShardIdent,
-    pub block_seqno: u32,
-    pub next_chain_time: ChainTime,
-    pub msgs_exec_params: MsgsExecutionParams,
-    pub buffer_limits_by_partitions: [u16; 8],
-    pub reader_state: ExternalsReaderState,
-    pub all_ranges_fully_read: bool,
-}
-
-pub enum GetNextMessageGroupMode {
-    Continue,
-    Refill,
-}
 
 // The answer of a call that changes the reader.
 pub struct ReaderDone {
@@ -95,50 +57,6 @@ pub struct ReadIntoBuffers {
     pub state: AnchorsCacheTransaction,
 }
 
-// The place after the last imported anchor's messages, if history holds one.
-pub enum Imported {
-    Nothing,
-    End(ExternalKey),
-}
-
-// What a read of all ranges fixes at entry; `room` is the length of the lent output.
-pub struct Fixed {
-    pub shard: ShardIdent,
-    pub block_seqno: u32,
-    pub next_chain_time: ChainTime,
-    pub params: MsgsExecutionParams,
-    pub limits: [u16; 8],
-    pub mode: GetNextMessageGroupMode,
-    pub by_partitions: [ExternalsPartitionReaderState; 8],
-    pub processed: [ProcessedTo; 8],
-    pub imported: Imported,
-    pub room: usize,
-}
-
-// What the read has come to: the ranges as they are now, the pops, the bytes used, whether every range so far is fully read, and whether a full buffer stopped it.
-pub struct RangesRead {
-    pub number: u8,
-    pub pops: usize,
-    pub used: usize,
-    pub all_read: bool,
-    pub stopped: bool,
-    pub last: LastChainTime,
-    pub counts: ReadCounts,
-    pub ranges: [ExternalsRangeReaderState; 16],
-    pub len: usize,
-}
-
-// The same without the ranges.
-pub struct SoFar {
-    pub number: u8,
-    pub pops: usize,
-    pub used: usize,
-    pub all_read: bool,
-    pub stopped: bool,
-    pub last: LastChainTime,
-    pub counts: ReadCounts,
-}
-
 // A range after its turn, and what the read has come to with it.
 pub struct TurnDone {
     pub so_far: SoFar,
@@ -161,7 +79,7 @@ pub fn check_settings(limits: [u16; 8], open_ranges_limit: u8) -> u8
     if of_limits != 0 {
         return of_limits;
     }
-    if OPEN_RANGES_CAP < open_ranges_limit {
+    if MAX_OPEN_RANGES < open_ranges_limit {
         return 4;
     }
     0
@@ -194,7 +112,8 @@ fn with_mark(reader: ExternalsReader, mark: bool) -> ExternalsReader
     r
 }
 
-// A reader over a state: each partition that has a limit gets a record, if it has none, and a range is fully read exactly where its position is its "to".
+// A reader over a state: each partition that has a limit gets a record, if it has none, and a range is fully read
+// exactly where its position is its "to".
 pub fn new(
     for_shard_id: ShardIdent,
     block_seqno: u32,
@@ -322,7 +241,7 @@ pub fn create_next_externals_range_state(reader: ExternalsReader) -> NextRange
     let parts = state.by_partitions;
     let ranges = state.ranges;
     let time = reader.next_chain_time;
-    let at = next::last_place(state.len);
+    let at = rows::last_place(state.len);
     let last = ranges[at];
     NextRange {
         number: 0,
@@ -362,11 +281,10 @@ fn fixed_at_entry(
 fn answered(number: u8, reader: ExternalsReader, t: AnchorsCacheTransaction) -> ReadIntoBuffers
     ensures { λ r. ⌜ r ≡ unchanged number reader t [] .answer ⌝ }
 {
-    let counts = turns::no_counts();
     ReadIntoBuffers {
         number: number,
         used: 0,
-        counts: counts,
+        counts: NO_COUNTS,
         reader: reader,
         state: t,
     }
@@ -378,8 +296,9 @@ fn reader_after(reader: ExternalsReader, r: RangesRead) -> ExternalsReader
 {
     let old = reader.reader_state;
     let saved = old.last_read_to_anchor_chain_time;
-    let seen = r.last;
-    let last = turns::later(seen, saved);
+    let so_far = r.so_far;
+    let seen = so_far.last;
+    let last = turns::time_saved(seen, saved);
     let parts = old.by_partitions;
     let ranges = r.ranges;
     let state = ExternalsReaderState {
@@ -399,7 +318,7 @@ fn reader_after(reader: ExternalsReader, r: RangesRead) -> ExternalsReader
         msgs_exec_params: params,
         buffer_limits_by_partitions: limits,
         reader_state: state,
-        all_ranges_fully_read: r.all_read,
+        all_ranges_fully_read: so_far.all_read,
     }
 }
 
@@ -411,21 +330,24 @@ fn answer_of(
     reader: ExternalsReader,
     r: RangesRead,
 ) -> ReadIntoBuffers
-    ensures { λ q. ⌜ q ≡ answerOf (now (tables .entry)) (now (area .entry)) t reader r ⌝ }
+    ensures { λ q. ⌜ q ≡ readAnswered (now (tables .entry)) (now (area .entry)) t reader r ⌝ }
 {
-    let popped = anchors_cache::pop_fronts(tables, area, t, r.pops);
+    let so_far = r.so_far;
+    let popped = anchors_cache::pop_fronts(tables, area, t, so_far.pops);
     let after = popped.state;
-    let counts = r.counts;
+    let counts = so_far.counts;
     ReadIntoBuffers {
         number: 0,
-        used: r.used,
+        used: so_far.used,
         counts: counts,
         reader: reader_after(reader, r),
         state: after,
     }
 }
 
-// The read of all ranges. It runs twice: the first run writes nothing and decides the number, so that a refusal in a later range leaves the entries of the first unwritten. Where that one used no byte there is nothing to write, and it is the answer.
+// The read of all ranges. It runs twice: the first run writes nothing and decides the number, so that a refusal in a
+// later range leaves the entries of the first unwritten. Where that one used no byte there is nothing to write, and it
+// is the answer.
 pub fn read_into_buffers(
     tables: &[u8],
     area: &[u8],
@@ -450,12 +372,13 @@ pub fn read_into_buffers(
     let state = reader.reader_state;
     let ranges = state.ranges;
     let len = state.len;
-    let told = turns::ranges_read(tables, area, t, routes, x, ranges, len, false, &mut *out);
-    if told.number != 0 {
-        return answered(told.number, reader, t);
+    let checked = turns::ranges_read(tables, area, t, routes, x, ranges, len, false, &mut *out);
+    let so_far = checked.so_far;
+    if so_far.number != 0 {
+        return answered(so_far.number, reader, t);
     }
-    if told.used == 0 {
-        return answer_of(tables, area, t, reader, told);
+    if so_far.used == 0 {
+        return answer_of(tables, area, t, reader, checked);
     }
     let r = turns::ranges_read(tables, area, t, routes, x, ranges, len, true, &mut *out);
     answer_of(tables, area, t, reader, r)

@@ -4,19 +4,20 @@ ghost use mathlib.Core.Path.{_≡_};
 ghost use mathlib.Core.List.{List, map};
 ghost use lib.ListN.{getD, replicate};
 ghost use Rattle.messages_buffer.specs.Fullness.{noPartition};
-ghost use Rattle.range_reader.specs.declared.ExternalsRangeReaderState.{ExternalsRangeReaderState};
-ghost use Rattle.range_reader.specs.Rules.{noKey};
-ghost use Rattle.externals_reader.specs.State.{noRange};
-ghost use Rattle.externals_reader.specs.Rules.{lastOr, nextPartition, rangeFrom, nextRange, wantsNext};
-ghost use Rattle.externals_reader.specs.Locals.{readOf};
-use crate::ExternalsPartitionReaderState;
-use crate::Fixed;
-use crate::GetNextMessageGroupMode;
-use crate::SoFar;
+ghost use Rattle.range_rules.specs.declared.ExternalsRangeReaderState.{ExternalsRangeReaderState};
+ghost use Rattle.range_rules.specs.Rules.{noKey};
+ghost use Rattle.reader_rules.specs.State.{noRange};
+ghost use Rattle.reader_rules.specs.Rules.{lastOr, nextPartition, rangeFrom, nextRange, wantsNext, readOf};
 use ext_types::ChainTime;
 use ext_types::ExternalKey;
+use ext_types::NO_KEY;
 use messages_buffer::ExternalsPartitionRangeReaderState;
-use range_reader::ExternalsRangeReaderState;
+use messages_buffer::NO_PARTITION;
+use range_rules::ExternalsRangeReaderState;
+use reader_rules::ExternalsPartitionReaderState;
+use reader_rules::Fixed;
+use reader_rules::GetNextMessageGroupMode;
+use reader_rules::SoFar;
 
 // A partition of a new range: an empty buffer, both offsets at the current one.
 fn next_partition(p: ExternalsPartitionReaderState) -> ExternalsPartitionRangeReaderState
@@ -30,23 +31,12 @@ fn next_partition(p: ExternalsPartitionReaderState) -> ExternalsPartitionRangeRe
     }
 }
 
-fn no_partition() -> ExternalsPartitionRangeReaderState
-    ensures { λ r. ⌜ r ≡ noPartition ⌝ }
-{
-    ExternalsPartitionRangeReaderState {
-        count: 0,
-        skip_offset: 0,
-        processed_offset: 0,
-        present: false,
-    }
-}
-
 fn next_partitions(
     parts: [ExternalsPartitionReaderState; 8],
 ) -> [ExternalsPartitionRangeReaderState; 8]
     ensures { λ r. ⌜ r ≡ map nextPartition parts ⌝ }
 {
-    let mut r = [no_partition(); 8];
+    let mut r = [NO_PARTITION; 8];
     let mut i = 0;
     while i < 8 {
         let p = parts[i];
@@ -56,24 +46,11 @@ fn next_partitions(
     r
 }
 
-// Where the last of so many ranges stands; 0 where there is none.
-pub(crate) fn last_place(len: usize) -> usize
-    ensures { λ r. ⌜ r ≡ len - 1 ⌝ }
-{
-    if len == 0 {
-        return 0;
-    }
-    len - 1
-}
-
 fn last_to(last: ExternalsRangeReaderState, len: usize) -> ExternalKey
     ensures { λ r. ⌜ ((ranges : List ExternalsRangeReaderState) → getD ranges (len - 1) noRange ≡ last → r ≡ lastOr noKey (λ q. q .to) len ranges) ⌝ }
 {
     if len == 0 {
-        return ExternalKey {
-            anchor_id: 0,
-            msgs_offset: 0,
-        };
+        return NO_KEY;
     }
     last.to
 }
@@ -100,12 +77,8 @@ fn range_from(
 pub(crate) fn no_range() -> ExternalsRangeReaderState
     ensures { λ r. ⌜ r ≡ rangeFrom 0 noKey (record { 0 = 0 }) (replicate 8 noPartition) ⌝ }
 {
-    let from = ExternalKey {
-        anchor_id: 0,
-        msgs_offset: 0,
-    };
-    let parts = [no_partition(); 8];
-    range_from(0, from, ChainTime(0), parts)
+    let parts = [NO_PARTITION; 8];
+    range_from(0, NO_KEY, ChainTime(0), parts)
 }
 
 // The range behind the last one, which is not looked at where there is none.

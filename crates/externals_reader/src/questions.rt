@@ -2,14 +2,14 @@
 ghost use Prim.Native.Nat.{_≤_};
 ghost use mathlib.Core.Path.{_≡_};
 ghost use lib.ListN.{take};
-ghost use Rattle.externals_reader.specs.State.{rangeSound, soundFrom, rangesNumber};
-ghost use Rattle.externals_reader.specs.Calls.{readerNumber, askedOfRead};
+ghost use Rattle.reader_rules.specs.State.{rangeSound, soundRangesFrom, rangesNumber, maxRanges, readerNumber};
+ghost use Rattle.externals_reader.specs.Calls.{askedOfRead};
 ghost use Rattle.externals_reader.specs.Locals.{piecesNumber};
-use crate::ExternalsReader;
 use anchors_cache::AnchorsCacheTransaction;
-use range_reader::ExternalsRangeReaderState;
-
-const AREA_BYTES: usize = 33792;
+use cache_rules::AREA_BYTES;
+use range_rules::ExternalsRangeReaderState;
+use reader_rules::ExternalsReader;
+use reader_rules::MAX_RANGES;
 
 // A seqno not below `low`, and counts within the cap.
 fn is_sound(low: u64, range: ExternalsRangeReaderState) -> bool
@@ -24,9 +24,9 @@ fn is_sound(low: u64, range: ExternalsRangeReaderState) -> bool
     of_partitions == 0
 }
 
-pub(crate) fn sound_ranges(ranges: [ExternalsRangeReaderState; 16], len: usize) -> bool
-    requires { ⌜ len ≤ 16 ⌝ }
-    ensures { λ r. ⌜ r ≡ soundFrom 0 (take len ranges) ⌝ }
+pub(crate) fn sound_ranges(ranges: [ExternalsRangeReaderState; MAX_RANGES], len: usize) -> bool
+    requires { ⌜ len ≤ maxRanges ⌝ }
+    ensures { λ r. ⌜ r ≡ soundRangesFrom 0 (take len ranges) ⌝ }
 {
     let mut low = 0;
     let mut at = 0;
@@ -44,10 +44,10 @@ pub(crate) fn sound_ranges(ranges: [ExternalsRangeReaderState; 16], len: usize) 
 }
 
 // Question 5 of the ranges: 0 or 5.
-pub(crate) fn ranges_number(ranges: [ExternalsRangeReaderState; 16], len: usize) -> u8
+pub(crate) fn ranges_number(ranges: [ExternalsRangeReaderState; MAX_RANGES], len: usize) -> u8
     ensures { λ r. ⌜ r ≡ rangesNumber ranges len ⌝ }
 {
-    if crate::RANGES_CAP < len {
+    if MAX_RANGES < len {
         return 5;
     }
     if !sound_ranges(ranges, len) {
@@ -60,7 +60,7 @@ pub(crate) fn ranges_number(ranges: [ExternalsRangeReaderState; 16], len: usize)
 fn asked_of_settings(
     limits: [u16; 8],
     most: u8,
-    ranges: [ExternalsRangeReaderState; 16],
+    ranges: [ExternalsRangeReaderState; MAX_RANGES],
     len: usize,
 ) -> u8
     ensures { λ r. ⌜ r ≡ piecesNumber limits most ranges len ⌝ }

@@ -3,17 +3,22 @@ ghost use Prim.Native.Nat.{_+_, _≤_};
 ghost use mathlib.Core.Path.{_≡_};
 ghost use mathlib.Core.List.{map};
 ghost use lib.ListN.{length};
-ghost use Rattle.externals_reader.specs.Rules.{withDefault, partitionsEntered, rangeEntered, rangesEntered};
-ghost use Rattle.externals_reader.specs.Calls.{withLast, stateEntered, isPresent, processedOf, importedIn};
-use crate::ExternalsPartitionReaderState;
-use crate::ExternalsReaderState;
-use crate::Imported;
+ghost use Rattle.reader_rules.specs.Rules.{withDefault, partitionsEntered, rangeEntered, rangesEntered, stateEntered, processedOf};
+ghost use Rattle.reader_rules.specs.State.{withLast, maxRanges};
+ghost use Rattle.externals_reader.specs.Calls.{isPresent, importedIn};
+ghost use Rattle.cache_rules.specs.Rules.{maxHistory};
+ghost use Rattle.anchors_cache.specs.Tables.{tablesBytes};
 use anchors_cache::AnchorsCache;
 use ext_types::ExternalKey;
+use ext_types::NO_KEY;
 use messages_buffer::NO_LIMIT;
-use range_reader::ExternalsRangeReaderState;
-use range_reader::LastChainTime;
-use range_reader::ProcessedTo;
+use range_rules::ExternalsRangeReaderState;
+use range_rules::LastChainTime;
+use range_rules::ProcessedTo;
+use reader_rules::ExternalsPartitionReaderState;
+use reader_rules::ExternalsReaderState;
+use reader_rules::Imported;
+use reader_rules::MAX_RANGES;
 
 pub(crate) fn with_last(state: ExternalsReaderState, last: LastChainTime) -> ExternalsReaderState
     ensures { λ r. ⌜ r ≡ withLast state last ⌝ }
@@ -37,12 +42,8 @@ fn with_default(limit: u16, p: ExternalsPartitionReaderState) -> ExternalsPartit
     if limit == NO_LIMIT {
         return p;
     }
-    let key = ExternalKey {
-        anchor_id: 0,
-        msgs_offset: 0,
-    };
     ExternalsPartitionReaderState {
-        processed_to: key,
+        processed_to: NO_KEY,
         curr_processed_offset: 0,
         present: true,
     }
@@ -76,10 +77,10 @@ fn range_entered(range: ExternalsRangeReaderState) -> ExternalsRangeReaderState
 }
 
 fn ranges_entered(
-    ranges: [ExternalsRangeReaderState; 16],
+    ranges: [ExternalsRangeReaderState; MAX_RANGES],
     len: usize,
-) -> [ExternalsRangeReaderState; 16]
-    requires { ⌜ len ≤ 16 ⌝ }
+) -> [ExternalsRangeReaderState; MAX_RANGES]
+    requires { ⌜ len ≤ maxRanges ⌝ }
     ensures { λ r. ⌜ r ≡ rangesEntered len ranges ⌝ }
 {
     let mut r = ranges;
@@ -94,7 +95,7 @@ fn ranges_entered(
 
 // What `new` makes of a state.
 pub(crate) fn entered(limits: [u16; 8], state: ExternalsReaderState) -> ExternalsReaderState
-    requires { ⌜ state .len ≤ 16 ⌝ }
+    requires { ⌜ state .len ≤ maxRanges ⌝ }
     ensures { λ r. ⌜ r ≡ stateEntered limits state ⌝ }
 {
     let ranges = state.ranges;
@@ -136,10 +137,7 @@ pub(crate) fn processed_in(parts: [ExternalsPartitionReaderState; 8]) -> [Proces
     ensures { λ r. ⌜ r ≡ map processedOf parts ⌝ }
 {
     let none = ProcessedTo {
-        key: ExternalKey {
-            anchor_id: 0,
-            msgs_offset: 0,
-        },
+        key: NO_KEY,
         present: false,
     };
     let mut r = [none; 8];
@@ -154,7 +152,7 @@ pub(crate) fn processed_in(parts: [ExternalsPartitionReaderState; 8]) -> [Proces
 
 // The last imported entry's id and message count. Pops never remove that entry.
 pub(crate) fn last_imported(tables: &[u8], cache: AnchorsCache) -> Imported
-    requires { ⌜ (cache .«history_first» + cache .«history_len» ≤ 256) × (14912 ≤ length (now tables)) ⌝ }
+    requires { ⌜ (cache .«history_first» + cache .«history_len» ≤ maxHistory) × (tablesBytes ≤ length (now tables)) ⌝ }
     ensures { λ r. ⌜ r ≡ importedIn (now (tables .entry)) cache ⌝ }
 {
     if cache.history_len == 0 {

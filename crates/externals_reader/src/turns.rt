@@ -4,42 +4,31 @@ ghost use mathlib.Core.Path.{_≡_};
 ghost use mathlib.Core.Bool.{not, _&&_};
 ghost use lib.ListN.{getD};
 ghost use Rattle.range_reader.specs.Ready.{Wrote};
-ghost use Rattle.range_reader.specs.Calls.{noCounts};
-ghost use Rattle.externals_reader.specs.Rules.{skipOffsetOf, reached, beforeSkipOffsets, waits, isSkipped, modeFor, settled, sums, countsAdded, rangesRead, later};
+ghost use Rattle.reader_rules.specs.Rules.{skipOffsetOf, reached, beforeSkipOffsets, waits, isSkipped, modeFor, settled, sums, countsAdded, rangesRead, timeSaved, nothingRead, readOf};
 ghost use Rattle.externals_reader.specs.Calls.{told, windowRead};
-ghost use Rattle.externals_reader.specs.Locals.{nothingRead, readOf, turnDone, turnsOver};
-ghost use Rattle.externals_reader.specs.Ready.{Addable, TurnReady, RangeWrote, Ready, Start, TurnWrote};
-use crate::ExternalsPartitionReaderState;
-use crate::Fixed;
-use crate::GetNextMessageGroupMode;
-use crate::Imported;
-use crate::RangesRead;
-use crate::SoFar;
+ghost use Rattle.externals_reader.specs.Locals.{turnDone, turnsOver};
+ghost use Rattle.externals_reader.specs.Ready.{Addable, TurnReady, RangeWrote, TurnRoom, Start, TurnWrote};
 use crate::TurnDone;
 use crate::next;
 use anchors_cache::AnchorsCacheTransaction;
 use messages_buffer::ExternalsPartitionRangeReaderState;
-use range_reader::ExternalsRangeReaderState;
-use range_reader::LastChainTime;
-use range_reader::ReadCounts;
 use range_reader::ReadExternals;
-use range_reader::ReadNextExternalsMode;
-
-pub(crate) fn no_counts() -> ReadCounts
-    ensures { λ r. ⌜ r ≡ noCounts ⌝ }
-{
-    let zeros = [0u32; 8];
-    ReadCounts {
-        read: zeros,
-        expired: zeros,
-        buffered: zeros,
-    }
-}
+use range_rules::ExternalsRangeReaderState;
+use range_rules::LastChainTime;
+use range_rules::NO_COUNTS;
+use range_rules::ReadCounts;
+use range_rules::ReadNextExternalsMode;
+use reader_rules::ExternalsPartitionReaderState;
+use reader_rules::Fixed;
+use reader_rules::GetNextMessageGroupMode;
+use reader_rules::Imported;
+use reader_rules::MAX_RANGES;
+use reader_rules::RangesRead;
+use reader_rules::SoFar;
 
 fn nothing_read() -> SoFar
     ensures { λ r. ⌜ r ≡ nothingRead ⌝ }
 {
-    let counts = no_counts();
     let last = LastChainTime::Nothing;
     SoFar {
         number: 0,
@@ -48,13 +37,13 @@ fn nothing_read() -> SoFar
         all_read: true,
         stopped: false,
         last: last,
-        counts: counts,
+        counts: NO_COUNTS,
     }
 }
 
 // The first, if it is a time.
-pub(crate) fn later(last: LastChainTime, saved: LastChainTime) -> LastChainTime
-    ensures { λ r. ⌜ r ≡ later last saved ⌝ }
+pub(crate) fn time_saved(last: LastChainTime, saved: LastChainTime) -> LastChainTime
+    ensures { λ r. ⌜ r ≡ timeSaved last saved ⌝ }
 {
     let LastChainTime::Time(time) = last else {
         return saved;
@@ -295,7 +284,7 @@ fn turn(
     write: bool,
     out: &mut [u8],
 ) -> TurnDone
-    requires { ⌜ Ready x s (now out) ⌝ }
+    requires { ⌜ TurnRoom x s (now out) ⌝ }
     ensures { λ q. ⌜ TurnWrote write (windowRead (now (tables .entry)) (now (area .entry)) t (now (routes .entry)) x) x s range (now (out .entry)) (now (out .exit)) q ⌝ }
 {
     if range.fully_read {
@@ -332,32 +321,15 @@ fn turns_over(s: SoFar, left: usize) -> bool
     s.stopped
 }
 
-fn ranges_so_far(s: SoFar, ranges: [ExternalsRangeReaderState; 16], len: usize) -> RangesRead
-    ensures { λ r. ⌜ r ≡ readOf s ranges len ⌝ }
-{
-    let last = s.last;
-    let counts = s.counts;
-    RangesRead {
-        number: s.number,
-        pops: s.pops,
-        used: s.used,
-        all_read: s.all_read,
-        stopped: s.stopped,
-        last: last,
-        counts: counts,
-        ranges: ranges,
-        len: len,
-    }
-}
-
-// Every range in turn; where all are fully read, the next one, if one is wanted. The ranges are a local that is changed in place.
+// Every range in turn; where all are fully read, the next one, if one is wanted. The ranges are a local that is changed
+// in place.
 pub(crate) fn ranges_read(
     tables: &[u8],
     area: &[u8],
     t: AnchorsCacheTransaction,
     routes: &[u8],
     x: Fixed,
-    start: [ExternalsRangeReaderState; 16],
+    start: [ExternalsRangeReaderState; MAX_RANGES],
     len: usize,
     write: bool,
     out: &mut [u8],
@@ -381,14 +353,23 @@ pub(crate) fn ranges_read(
         at += 1;
         left -= 1;
     }
-    let place = next::last_place(len);
+    let place = rows::last_place(len);
     let last = ranges[place];
     if !next::wants_next(x, s, last, len) {
-        return ranges_so_far(s, ranges, len);
+        return RangesRead {
+            so_far: s,
+            ranges: ranges,
+            len: len,
+        };
     }
     let fresh = next::appended_range(x, last, len);
     let more = turn(tables, area, t, routes, x, s, fresh, write, &mut *out);
     let read = more.range;
     ranges[len] = read;
-    ranges_so_far(more.so_far, ranges, len + 1)
+    let so_far = more.so_far;
+    RangesRead {
+        so_far: so_far,
+        ranges: ranges,
+        len: len + 1,
+    }
 }

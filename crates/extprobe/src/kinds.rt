@@ -30,7 +30,8 @@ pub const IN_RANGE: u16 = 277;
 
 pub const NEW: u16 = 278;
 
-// How long the payload of a kind is; a cached anchor's has 33 bytes for each message. No payload is as long as that of an unknown kind.
+// How long the payload of a kind is; a cached anchor's has 33 bytes for each message.
+// No payload is as long as that of an unknown kind.
 fn length_of(kind: u16, p: &[u8]) -> usize {
     match kind {
         IN_RANGE => 12,

@@ -1,12 +1,7 @@
-// Runs sessions of the cache's and of the reader's calls, and prints what the Rust original prints for them (README.md).
-mod cache;
-mod functions;
+// Runs sessions of the cache's and the reader's calls, and prints what the Rust original prints for them (README.md).
 mod kinds;
-mod read;
 mod run;
-mod shown;
 mod state;
-mod text;
 
 // The next session of a list: how many bytes it has, and whether it is one of extread's.
 enum Framed {
@@ -21,7 +16,8 @@ fn read_front(bytes: &mut [u8], n: usize) -> bool {
     false
 }
 
-// Its length, 4 bytes, then 1 for one of extread's or 0, then so many bytes. A session that is longer than there is room for, or cut short, ends the list.
+// Its length, 4 bytes, then 1 for one of extread's or 0, then so many bytes.
+// A session that is longer than there is room for, or cut short, ends the list.
 fn read_session(bytes: &mut [u8; 131072]) -> Framed {
     let mut head = [0u8; 5];
     if io::read_full(0, &mut head) != 5 {
@@ -32,6 +28,12 @@ fn read_session(bytes: &mut [u8; 131072]) -> Framed {
         return Framed::Bytes(n, head[4] == 1);
     }
     Framed::Nothing
+}
+
+fn print_count(name: &[u8], n: u64) {
+    let mut line = [0u8; 64];
+    let at = text::put_line(&mut line, 0, name, &[n]);
+    run::write_front(&line, at);
 }
 
 // Sessions one after the other, each under a line `session` with its number; then how many there were.
@@ -46,10 +48,10 @@ fn replay(
     while k < u64::MAX {
         let framed = read_session(bytes);
         let Framed::Bytes(n, plain) = framed else {
-            text::print_one(b"sessions", k, b"\n");
+            print_count(b"sessions", k);
             return;
         };
-        text::print_one(b"session", k, b"\n");
+        print_count(b"session", k);
         run::session(bytes, n, tables, area, routes, text, plain);
         k += 1;
     }

@@ -1,21 +1,29 @@
-// A session: its records one after the other, until it ends or one is refused. Those of extread go to `session::step`; after each the state follows.
-use crate::cache;
-use crate::functions;
+// A session: its records one after the other, until it ends or one is refused.
+// Those of extread go to `session::step`; after each the state follows.
 use crate::kinds;
-use crate::read;
-use crate::shown;
 use crate::state;
 use crate::state::Run;
-use crate::text;
 use anchors_cache::Done;
+use ext_types::ChainTime;
 use externals_reader::ReaderDone;
+use probe_reader::functions;
+use probe_reader::given;
+use probe_reader::read;
+use probe_reader::read::Answered;
+use reader_rules::ExternalsReader;
 use records::Next;
 use session::Stepped;
-use session_cache::Session;
+use session_rules::Session;
+
+pub fn write_front(out: &[u8], at: usize) {
+    if at <= out.len() {
+        io::write_all(1, &out[0..at]);
+    }
+}
 
 // The record is refused, and the session ends.
 fn bad(text: &mut [u8; 131072], run: Run, number: u8) -> Run {
-    state::with_session(run, session_cache::bad(text, run.session, number))
+    state::with_session(run, session_state::bad(text, run.session, number))
 }
 
 // After a call that prints nothing.
@@ -36,37 +44,56 @@ fn set(text: &mut [u8; 131072], run: Run, done: ReaderDone) -> Run {
     state::with_reader(run, reader)
 }
 
-fn trim(tables: &[u8], area: &[u8], run: Run, ct: u64) -> Run {
+// After a reader's call whose number is told; a refused one's reader is taken too: it is as at entry.
+fn told(text: &mut [u8; 131072], run: Run, name: &[u8], done: ReaderDone) -> Run {
     let session = run.session;
-    let done = cache::trim(tables, area, run.area, session.cache, ct);
-    text::print_call(text::TRIM, done.number, b"\n");
-    state::with_cache(run, done.state)
+    let reader = done.reader;
+    let at = text::put_call(text, session.at, name, done.number);
+    state::with_reader(state::with_at(run, at), reader)
 }
 
-fn range(text: &mut [u8; 131072], run: Run, p: &[u8]) -> Run {
-    let old = run.reader;
-    let r = state::range_of(p);
-    let number = state::range_number(old, r);
-    if number != 0 {
-        return bad(text, run, number);
+// A trim on the part of the area that is lent.
+fn trim(tables: &[u8], area: &[u8], text: &mut [u8; 131072], run: Run, ct: u64) -> Run {
+    let session = run.session;
+    let n = run.area;
+    if area.len() < n {
+        return run;
     }
-    state::with_reader(run, state::with_range(old, r))
+    let time = ChainTime(ct);
+    let done = anchors_cache::remove_last_imported_above(
+        tables,
+        &area[0..n],
+        session.transaction,
+        time,
+    );
+    let at = text::put_call(text, session.at, b"trim", done.number);
+    state::with_at(state::with_cache(run, done.state), at)
 }
 
 // The host took: seqno 4, partition 1, number 4.
-fn took(run: Run, p: &[u8]) -> Run {
+fn took(text: &mut [u8; 131072], run: Run, p: &[u8]) -> Run {
     let seqno = rows::u32_at(p, 0);
     let n = rows::u32_at(p, 5);
     let done = reader_offsets::messages_taken(run.reader, seqno, rows::byte_at(p, 4), n);
-    functions::after(run, text::TOOK, done)
+    told(text, run, b"took", done)
+}
+
+// `new` over what the reader holds.
+fn renewed(reader: ExternalsReader) -> ReaderDone {
+    let shard = reader.for_shard_id;
+    let time = reader.next_chain_time;
+    let params = reader.msgs_exec_params;
+    let limits = reader.buffer_limits_by_partitions;
+    let state = reader.reader_state;
+    externals_reader::new(shard, reader.block_seqno, time, params, limits, state)
 }
 
 // The records that put the reader's partitions and marks, and what is lent.
 fn put(run: Run, kind: u16, p: &[u8]) -> Run {
     let mut next = run;
     match kind {
-        kinds::PARTITION => state::with_reader(run, state::with_partition(run.reader, p)),
-        kinds::MARKS => state::with_reader(run, state::with_marks(run.reader, p)),
+        kinds::PARTITION => state::with_reader(run, given::with_partition(run.reader, p)),
+        kinds::MARKS => state::with_reader(run, given::with_marks(run.reader, p)),
         kinds::PLACES => {
             next.places = rows::u32_at(p, 0) as usize;
             next
@@ -81,33 +108,113 @@ fn put(run: Run, kind: u16, p: &[u8]) -> Run {
 // The records that reach neither tables nor message area.
 fn reader_record(text: &mut [u8; 131072], run: Run, kind: u16, p: &[u8]) -> Run {
     match kind {
-        kinds::RANGE => range(text, run, p),
+        kinds::RANGE => set(text, run, given::put_range(run.reader, p)),
         kinds::LIMITS => {
             let limits = records::limits_of(p);
             let done = externals_reader::set_buffer_limits_by_partition(run.reader, limits);
             set(text, run, done)
         }
-        kinds::TOOK => took(run, p),
-        kinds::NEW => functions::after(run, text::NEW, state::renewed(run.reader)),
+        kinds::TOOK => took(text, run, p),
+        kinds::NEW => told(text, run, b"new", renewed(run.reader)),
         _ => put(run, kind, p),
     }
 }
 
-// The records that call or ask.
-fn called(tables: &[u8], area: &[u8], routes: &[u8], run: Run, kind: u16, p: &[u8]) -> Run {
+// After a read.
+fn after_read(run: Run, r: Answered) -> Run {
+    let reader = r.reader;
+    let next = state::with_cache(state::with_at(run, r.at), r.cache);
+    state::with_reader(next, reader)
+}
+
+fn read_one(
+    tables: &[u8],
+    area: &[u8],
+    routes: &[u8],
+    text: &mut [u8; 131072],
+    run: Run,
+    p: &[u8],
+) -> Run {
     let session = run.session;
+    let lent = state::lent(run);
+    let t = session.transaction;
+    after_read(
+        run,
+        read::one(
+            text,
+            session.at,
+            tables,
+            area,
+            routes,
+            lent,
+            t,
+            run.reader,
+            p,
+        ),
+    )
+}
+
+fn read_all(
+    tables: &[u8],
+    area: &[u8],
+    routes: &[u8],
+    text: &mut [u8; 131072],
+    run: Run,
+    mode: u8,
+) -> Run {
+    let session = run.session;
+    let lent = state::lent(run);
+    let t = session.transaction;
+    after_read(
+        run,
+        read::all(
+            text,
+            session.at,
+            tables,
+            area,
+            routes,
+            lent,
+            t,
+            run.reader,
+            mode,
+        ),
+    )
+}
+
+fn function(tables: &[u8], text: &mut [u8; 131072], run: Run, p: &[u8]) -> Run {
+    let session = run.session;
+    let called = functions::function(text, session.at, tables, session.transaction, run.reader, p);
+    let reader = called.reader;
+    state::with_reader(state::with_at(run, called.at), reader)
+}
+
+// The records that call or ask.
+fn called(
+    tables: &[u8],
+    area: &[u8],
+    routes: &[u8],
+    text: &mut [u8; 131072],
+    run: Run,
+    kind: u16,
+    p: &[u8],
+) -> Run {
+    let session = run.session;
+    let t = session.transaction;
     match kind {
-        kinds::TRIM => trim(tables, area, run, rows::u64_at(p, 0)),
-        kinds::ONE => read::one(tables, area, routes, run, p),
-        kinds::FUNCTION => functions::function(tables, run, p),
+        kinds::TRIM => trim(tables, area, text, run, rows::u64_at(p, 0)),
+        kinds::ONE => read_one(tables, area, routes, text, run, p),
+        kinds::FUNCTION => function(tables, text, run, p),
         kinds::INFO_AT => {
-            cache::print_info_at(tables, session.cache, rows::u64_at(p, 0));
-            run
+            let ct = rows::u64_at(p, 0);
+            state::with_at(
+                run,
+                probe_cache::put_info_at(text, session.at, tables, t, ct),
+            )
         }
-        _ => {
-            cache::print_in_range(tables, session.cache, p);
-            run
-        }
+        _ => state::with_at(
+            run,
+            probe_cache::put_in_range(text, session.at, tables, t, p),
+        ),
     }
 }
 
@@ -122,14 +229,22 @@ fn beyond(
     p: &[u8],
 ) -> Run {
     let session = run.session;
-    if !kinds::is_well_made(session.number, kind, p) {
+    if !kinds::is_well_made(session.records, kind, p) {
         return bad(text, run, 17);
     }
     match kind {
-        kinds::HISTORY => taken(text, run, cache::put_history(tables, session.cache, p)),
-        kinds::CACHED => taken(text, run, cache::put_cached(tables, area, session.cache, p)),
+        kinds::HISTORY => taken(
+            text,
+            run,
+            probe_cache::given::append_info(tables, session.transaction, p),
+        ),
+        kinds::CACHED => taken(
+            text,
+            run,
+            probe_cache::given::append_anchor(tables, area, session.transaction, p),
+        ),
         kinds::TRIM | kinds::ONE | kinds::FUNCTION | kinds::INFO_AT | kinds::IN_RANGE => {
-            called(tables, area, routes, run, kind, p)
+            called(tables, area, routes, text, run, kind, p)
         }
         _ => reader_record(text, run, kind, p),
     }
@@ -163,7 +278,7 @@ fn plain(
 }
 
 fn numbered(run: Run) -> Run {
-    state::with_session(run, session_cache::numbered(run.session))
+    state::with_session(run, session_state::record_counted(run.session))
 }
 
 // The mode of a read that is taken: 0 `Continue`, 1 `Refill`; 2 for any other record.
@@ -171,7 +286,7 @@ fn read_mode(session: Session, record: &[u8]) -> u8 {
     if rows::u16_at(record, 0) != records::DO {
         return 2;
     }
-    if !session_cache::is_taken(session, record) {
+    if !session_state::is_taken(session, record) {
         return 2;
     }
     match rows::byte_at(record, 2) {
@@ -194,7 +309,7 @@ fn handled(
     }
     let mode = read_mode(run.session, record);
     if mode < 2 {
-        return read::all(tables, area, routes, numbered(run), mode);
+        return read_all(tables, area, routes, text, numbered(run), mode);
     }
     let kind = rows::u16_at(record, 0);
     if kind < 256 {
@@ -221,16 +336,31 @@ fn has_state(session: Session, plain: bool) -> bool {
     if plain {
         return false;
     }
-    3 <= session.number
+    3 <= session.records
+}
+
+// The text so far is written, and the next one begins at the front.
+fn flushed(text: &[u8; 131072], run: Run, at: usize) -> Run {
+    write_front(text, at);
+    state::with_at(run, 0)
+}
+
+// The whole state.
+fn put_state(tables: &[u8], area: &[u8], text: &mut [u8; 131072], run: Run) -> usize {
+    let session = run.session;
+    let at = probe_reader::shown::put_reader(text, 0, run.reader);
+    probe_cache::shown::put_cache(text, at, tables, area, session.transaction)
 }
 
 // What is printed of the session so far; after each record behind the settings that is not refused the state follows.
-fn show(tables: &[u8; 14912], area: &[u8; 33792], text: &[u8; 131072], run: Run) -> Run {
-    let session = text::flushed(text, run.session);
+fn show(tables: &[u8], area: &[u8], text: &mut [u8; 131072], run: Run) -> Run {
+    let session = run.session;
+    let next = flushed(text, run, session.at);
     if has_state(session, run.plain) {
-        shown::print_state(tables, area, session.cache, run.reader);
+        let at = put_state(tables, area, text, run);
+        return flushed(text, next, at);
     }
-    state::with_session(run, session)
+    next
 }
 
 // The record in the n bytes from a place on.
@@ -264,7 +394,7 @@ fn ended(
     run: Run,
     end: usize,
 ) -> Run {
-    let session = session_cache::end(text, run.session, run.from < end);
+    let session = session_state::end(text, run.session, run.from < end);
     show(tables, area, text, state::with_session(run, session))
 }
 

@@ -1,8 +1,9 @@
-// Runs the session on standard input and prints its lines (document 01, "Session program"). The input may be of any length; it is read, and the text is written, in large pieces.
-use externals_reader::ExternalsReader;
+// Runs the session on standard input and prints its lines (document 01, "Session program"). The input may be of any
+// length; it is read, and the text is written, in large pieces.
+use reader_rules::ExternalsReader;
 use records::Next;
 use session::Stepped;
-use session_cache::Session;
+use session_rules::Session;
 
 // A session on its way, and the input that is at hand, from `from` to `end`.
 struct Run {
@@ -50,7 +51,7 @@ fn refilled(window: &mut [u8; 65536], text: &mut [u8; 131072], run: Run) -> Run 
     next.from = 0;
     next.end = std::num::wrapping_add_usize(have, more);
     if more == 0 {
-        let session = session_cache::end(text, run.session, 0 < have);
+        let session = session_state::end(text, run.session, 0 < have);
         next.session = session;
     }
     next
@@ -121,11 +122,11 @@ fn long(window: &[u8], text: &mut [u8], tables: &[u8], area: &[u8], run: Run, n:
         if start <= end {
             if end <= window.len() {
                 let head = &window[start..end];
-                return session_cache::long_record(tables, area, text, session, head, n);
+                return session_state::long_record(tables, area, text, session, head, n);
             }
         }
     }
-    session_cache::end(text, session, true)
+    session_state::end(text, session, true)
 }
 
 fn turn(
@@ -166,7 +167,7 @@ fn main() {
     let mut routes = [0u8; 8704];
     let mut entries = [0u8; 26624];
     let mut run = Run {
-        session: session_cache::new(),
+        session: session_state::new(),
         reader: session::no_reader(),
         from: 0,
         end: 0,

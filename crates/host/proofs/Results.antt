@@ -1,4 +1,5 @@
--- The thin calls as the law of `by_reference`'s `Thin.antt` has them: the parameters behind the state, and what is asked of the cores' results.
+-- The thin calls as the law of `by_reference`'s `Thin.antt` has them: the parameters behind the state, and what is
+-- asked of the cores' results.
 -- Assumes nothing.
 use mathlib.Core.Path.{_≡_, ap}
 use mathlib.Core.List.{List, [], _∷_}
@@ -12,7 +13,7 @@ use Rattle.anchors_cache.specs.declared.AnchorsCacheTransaction.{AnchorsCacheTr
 use Rattle.anchors_cache.specs.declared.Done.{Done}
 use Rattle.range_reader.specs.Calls.{ReadResult}
 use Rattle.externals_reader.specs.Calls.{ReadAllResult}
-use Rattle.host.specs.Calls.{Added, added, allRead, readAll, rangeRead, readRange}
+use Rattle.host.specs.Calls.{Added, addShown, readAllShown, readAll, readRangeShown, readRange}
 use Rattle.host.specs.declared.Externals.{Externals}
 use Rattle.host.specs.declared.AllRead.{AllRead}
 use Rattle.host.specs.declared.RangeAndCache.{RangeAndCache}
@@ -135,7 +136,7 @@ abbrev pub adding : List (Param 3)
 adding = lent-mut 3 0 tt ∷ lent-mut 3 1 tt ∷ by-value 3 M.the-type M′.the-laws ∷ number 3 w32 ∷ lent-bytes 3 2 tt ∷ []
 
 abbrev adds : Nows adding → AnchorsCacheTransaction → Added
-adds s t = added (s .0) (s .1 .0) (s .1 .1 .0) (s .1 .1 .1 .0) (s .1 .1 .1 .1 .0) t
+adds s t = addShown (s .0) (s .1 .0) (s .1 .1 .0) (s .1 .1 .1 .0) (s .1 .1 .1 .1 .0) t
 
 abbrev pub add-core-says : CoreSays T.the-type number-and-state adding
 add-core-says s z t r = (r ≡ adds s t .done) × (z .0 ≡ adds s t .tables) × (z .1 .0 ≡ adds s t .area)
@@ -154,10 +155,10 @@ abbrev reads-all : Nows reading-all → Externals → ReadAllResult
 reads-all s e = readAll (s .0) (s .1 .0) (s .1 .1 .0) (s .1 .1 .1 .0) (s .1 .1 .1 .1 .0) e
 
 abbrev pub all-core-says : CoreSays E.the-type answer-and-externals reading-all
-all-core-says s z e r = (r ≡ allRead (reads-all s e .answer)) × (z .0 ≡ reads-all s e .out)
+all-core-says s z e r = (r ≡ readAllShown (reads-all s e .answer)) × (z .0 ≡ reads-all s e .out)
 
 abbrev pub all-says : FSays E.the-type answer-and-externals reading-all
-all-says s z e r u = (r ≡ allRead (reads-all s e .answer) .answer) × (u ≡ allRead (reads-all s e .answer) .state) × (z .0 ≡ reads-all s e .out)
+all-says s z e r u = (r ≡ readAllShown (reads-all s e .answer) .answer) × (u ≡ readAllShown (reads-all s e .answer) .state) × (z .0 ≡ reads-all s e .out)
 
 pub all-follows : (s : Nows reading-all) (z : Ends reading-all) (e : Externals) (r : AllRead) → all-core-says s z e r → all-says s z e (r .answer) (r .state)
 all-follows s z e r h = (ap (λ (d : AllRead). d .answer) (h .0), ap (λ (d : AllRead). d .state) (h .0), h .1)
@@ -169,10 +170,10 @@ abbrev reads-range : Nows reading-range → RangeAndCache → ReadResult
 reads-range s e = readRange (s .0) (s .1 .0) (s .1 .1 .0) (s .1 .1 .1 .0) (s .1 .1 .1 .1 .0) e
 
 abbrev pub range-core-says : CoreSays C.the-type answer-and-range reading-range
-range-core-says s z e r = (r ≡ rangeRead (reads-range s e .answer)) × (z .0 ≡ reads-range s e .out)
+range-core-says s z e r = (r ≡ readRangeShown (reads-range s e .answer)) × (z .0 ≡ reads-range s e .out)
 
 abbrev pub range-says : FSays C.the-type answer-and-range reading-range
-range-says s z e r u = (r ≡ rangeRead (reads-range s e .answer) .answer) × (u ≡ rangeRead (reads-range s e .answer) .state) × (z .0 ≡ reads-range s e .out)
+range-says s z e r u = (r ≡ readRangeShown (reads-range s e .answer) .answer) × (u ≡ readRangeShown (reads-range s e .answer) .state) × (z .0 ≡ reads-range s e .out)
 
 pub range-follows : (s : Nows reading-range) (z : Ends reading-range) (e : RangeAndCache) (r : RangeRead) → range-core-says s z e r → range-says s z e (r .answer) (r .state)
 range-follows s z e r h = (ap (λ (d : RangeRead). d .answer) (h .0), ap (λ (d : RangeRead). d .state) (h .0), h .1)

@@ -31,11 +31,11 @@ use Rattle.host.specs.declared.RangeRead.{RangeRead}
 use Rattle.host.specs.Shapes.{groupMode, rangeMode, savedTime, stateOf, readerOf, heldReader, anchorShown, infoShown}
 
 -- ---- the cache
-unfoldable pub popped : Popped → AnchorPopped
-popped p = record { answer = anchorShown (p .number) (p .front) (p .author); state = p .state }
+unfoldable pub popShown : Popped → AnchorPopped
+popShown p = record { answer = anchorShown (p .number) (p .front) (p .author); state = p .state }
 
-unfoldable pub trimmed : Trimmed → InfoTrimmed
-trimmed p = record { answer = infoShown (p .number) (p .last) (p .author); state = p .state }
+unfoldable pub trimShown : Trimmed → InfoTrimmed
+trimShown p = record { answer = infoShown (p .number) (p .last) (p .author); state = p .state }
 
 -- an added anchor: the number and the transaction, the tables and the message area
 pub record Added : Type 0 where
@@ -43,8 +43,8 @@ pub record Added : Type 0 where
   pub tables : List ℕ
   pub area : List ℕ
 
-unfoldable pub added : List ℕ → List ℕ → MempoolAnchor → ℕ → List ℕ → AnchorsCacheTransaction → Added
-added tables area anchor ours messages t =
+unfoldable pub addShown : List ℕ → List ℕ → MempoolAnchor → ℕ → List ℕ → AnchorsCacheTransaction → Added
+addShown tables area anchor ours messages t =
     let a = rowFor anchor ours (length messages) in
     let number = addNumber (length area) tables t (anchor .id) ours (length messages) in
     record {
@@ -61,23 +61,23 @@ abbrev pub partitionShown : Answer → PartitionShown
 partitionShown a = record { number = a .number; partition = a .value }
 
 -- ---- the reader
-unfoldable pub after : ReaderDone → ReaderAfter
-after d = record { number = d .number; reader = heldReader (d .reader) }
+unfoldable pub readerShown : ReaderDone → ReaderAfter
+readerShown d = record { number = d .number; reader = heldReader (d .reader) }
 
 -- a reader over the state that it is handed with
-unfoldable pub entered : Reader → ReaderAfter
-entered r = after (newCall (handedIn (r .«for_shard_id») (r .«block_seqno») (r .«next_chain_time») (r .«msgs_exec_params») (r .«buffer_limits_by_partitions») (stateOf (r .«reader_state»))))
+unfoldable pub newShown : Reader → ReaderAfter
+newShown r = readerShown (newCall (handedIn (r .«for_shard_id») (r .«block_seqno») (r .«next_chain_time») (r .«msgs_exec_params») (r .«buffer_limits_by_partitions») (stateOf (r .«reader_state»))))
 
 -- a read of all ranges: what it answers and leaves, and the output
-abbrev pub allRead : ReadIntoBuffers → AllRead
-allRead a = record { answer = record { number = a .number; used = a .used; counts = a .counts }; state = record { transaction = a .state; reader = heldReader (a .reader) } }
+abbrev pub readAllShown : ReadIntoBuffers → AllRead
+readAllShown a = record { answer = record { number = a .number; used = a .used; counts = a .counts }; state = record { transaction = a .state; reader = heldReader (a .reader) } }
 
 unfoldable pub readAll : List ℕ → List ℕ → List ℕ → List ℕ → Bool → Externals → ReadAllResult
 readAll out tables area routes refill e = readAllCall tables area (e .transaction) routes (readerOf (e .reader)) (groupMode refill) out
 
 -- one range's
-abbrev pub rangeRead : ReadExternals → RangeRead
-rangeRead a =
+abbrev pub readRangeShown : ReadExternals → RangeRead
+readRangeShown a =
     record {
       answer = record { number = a .number; full = a .full; «last_chain_time» = savedTime (a .«last_chain_time»); pops = a .pops; used = a .used; counts = a .counts };
       state = record { transaction = a .state; range = a .range };

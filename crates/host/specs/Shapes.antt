@@ -11,14 +11,14 @@ use Rattle.anchors_cache.specs.declared.FoundInfo.{FoundInfo}
 use Rattle.anchors_cache.specs.declared.FoundInfo.the-variants as last
 use Rattle.anchors_cache.specs.declared.InfoAnswer.{InfoAnswer}
 use Rattle.anchors_cache.specs.declared.AnchorAnswer.{AnchorAnswer}
-use Rattle.range_reader.specs.declared.LastChainTime.{LastChainTime}
-use Rattle.range_reader.specs.declared.LastChainTime.the-variants.{Nothing, Time}
-use Rattle.range_reader.specs.declared.ReadNextExternalsMode.{ReadNextExternalsMode}
-use Rattle.range_reader.specs.declared.ReadNextExternalsMode.the-variants.{ToTheEnd, ToPreviuosReadTo}
-use Rattle.externals_reader.specs.declared.GetNextMessageGroupMode.{GetNextMessageGroupMode}
-use Rattle.externals_reader.specs.declared.GetNextMessageGroupMode.the-variants.{Continue, Refill}
-use Rattle.externals_reader.specs.declared.ExternalsReader.{ExternalsReader}
-use Rattle.externals_reader.specs.declared.ExternalsReaderState.{ExternalsReaderState}
+use Rattle.range_rules.specs.declared.LastChainTime.{LastChainTime}
+use Rattle.range_rules.specs.declared.LastChainTime.the-variants.{Nothing, Time}
+use Rattle.range_rules.specs.declared.ReadNextExternalsMode.{ReadNextExternalsMode}
+use Rattle.range_rules.specs.declared.ReadNextExternalsMode.the-variants.{ToTheEnd, ToPreviuosReadTo}
+use Rattle.reader_rules.specs.declared.GetNextMessageGroupMode.{GetNextMessageGroupMode}
+use Rattle.reader_rules.specs.declared.GetNextMessageGroupMode.the-variants.{Continue, Refill}
+use Rattle.reader_rules.specs.declared.ExternalsReader.{ExternalsReader}
+use Rattle.reader_rules.specs.declared.ExternalsReaderState.{ExternalsReaderState}
 use Rattle.host.specs.declared.SavedTime.{SavedTime}
 use Rattle.host.specs.declared.ReaderState.{ReaderState}
 use Rattle.host.specs.declared.Reader.{Reader}

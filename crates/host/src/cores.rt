@@ -5,7 +5,7 @@ ghost use Rattle.anchors_cache.specs.Calls.{popCall, trimCall};
 ghost use Rattle.externals_reader.specs.Calls.{resetCall, dropLastCall, setLimitsCall};
 ghost use Rattle.reader_offsets.specs.Calls.{finalizeCall, retainCall, setFromCall, incrementCall, dropCall, setSkipCall, setProcessedCall, takenCall};
 ghost use Rattle.host.specs.Shapes.{readerOf};
-ghost use Rattle.host.specs.Calls.{popped, trimmed, added, after, entered, allRead, readAll, rangeRead, readRange};
+ghost use Rattle.host.specs.Calls.{popShown, trimShown, addShown, readerShown, newShown, readAllShown, readAll, readRangeShown, readRange};
 use crate::AllAnswer;
 use crate::AllRead;
 use crate::AnchorPopped;
@@ -25,7 +25,7 @@ use anchors_cache::MempoolAnchor;
 use ext_types::ChainTime;
 
 pub(crate) fn popped(tables: &[u8], area: &[u8], t: AnchorsCacheTransaction) -> AnchorPopped
-    ensures { λ r. ⌜ r ≡ popped (popCall (length (now (area .entry))) (now (tables .entry)) t) ⌝ }
+    ensures { λ r. ⌜ r ≡ popShown (popCall (length (now (area .entry))) (now (tables .entry)) t) ⌝ }
 {
     let p = anchors_cache::pop_front(tables, area, t);
     let front = p.front;
@@ -44,7 +44,7 @@ pub(crate) fn trimmed(
     ct: ChainTime,
     t: AnchorsCacheTransaction,
 ) -> InfoTrimmed
-    ensures { λ r. ⌜ r ≡ trimmed (trimCall (length (now (area .entry))) (ct .0) (now (tables .entry)) t) ⌝ }
+    ensures { λ r. ⌜ r ≡ trimShown (trimCall (length (now (area .entry))) (ct .0) (now (tables .entry)) t) ⌝ }
 {
     let p = anchors_cache::remove_last_imported_above(tables, area, t, ct);
     let last = p.last;
@@ -65,15 +65,15 @@ pub(crate) fn added(
     messages: &[u8],
     t: AnchorsCacheTransaction,
 ) -> Done
-    ensures { λ r. ⌜ (r ≡ added (now (tables .entry)) (now (area .entry)) anchor «our_exts_count» (now (messages .entry)) t .done)
-        × (now (tables .exit) ≡ added (now (tables .entry)) (now (area .entry)) anchor «our_exts_count» (now (messages .entry)) t .tables)
-        × (now (area .exit) ≡ added (now (tables .entry)) (now (area .entry)) anchor «our_exts_count» (now (messages .entry)) t .area) ⌝ }
+    ensures { λ r. ⌜ (r ≡ addShown (now (tables .entry)) (now (area .entry)) anchor «our_exts_count» (now (messages .entry)) t .done)
+        × (now (tables .exit) ≡ addShown (now (tables .entry)) (now (area .entry)) anchor «our_exts_count» (now (messages .entry)) t .tables)
+        × (now (area .exit) ≡ addShown (now (tables .entry)) (now (area .entry)) anchor «our_exts_count» (now (messages .entry)) t .area) ⌝ }
 {
     anchors_cache::add(tables, area, t, anchor, our_exts_count, messages)
 }
 
 pub(crate) fn entered(reader: Reader) -> ReaderAfter
-    ensures { λ r. ⌜ r ≡ entered reader ⌝ }
+    ensures { λ r. ⌜ r ≡ newShown reader ⌝ }
 {
     let shard = reader.for_shard_id;
     let time = reader.next_chain_time;
@@ -85,7 +85,7 @@ pub(crate) fn entered(reader: Reader) -> ReaderAfter
 }
 
 pub(crate) fn limits_set(limits: BufferLimits, reader: Reader) -> ReaderAfter
-    ensures { λ r. ⌜ r ≡ after (setLimitsCall (readerOf reader) (limits .«by_partitions»)) ⌝ }
+    ensures { λ r. ⌜ r ≡ readerShown (setLimitsCall (readerOf reader) (limits .«by_partitions»)) ⌝ }
 {
     let by_partitions = limits.by_partitions;
     shapes::after(externals_reader::set_buffer_limits_by_partition(
@@ -95,31 +95,31 @@ pub(crate) fn limits_set(limits: BufferLimits, reader: Reader) -> ReaderAfter
 }
 
 pub(crate) fn reset(reader: Reader) -> ReaderAfter
-    ensures { λ r. ⌜ r ≡ after (resetCall (readerOf reader)) ⌝ }
+    ensures { λ r. ⌜ r ≡ readerShown (resetCall (readerOf reader)) ⌝ }
 {
     shapes::after(externals_reader::reset_read_state(shapes::reader_of(reader)))
 }
 
 pub(crate) fn last_dropped(reader: Reader) -> ReaderAfter
-    ensures { λ r. ⌜ r ≡ after (dropLastCall (readerOf reader)) ⌝ }
+    ensures { λ r. ⌜ r ≡ readerShown (dropLastCall (readerOf reader)) ⌝ }
 {
     shapes::after(externals_reader::drop_last_read_to_anchor_chain_time(shapes::reader_of(reader)))
 }
 
 pub(crate) fn finalized(reader: Reader) -> ReaderAfter
-    ensures { λ r. ⌜ r ≡ after (finalizeCall (readerOf reader)) ⌝ }
+    ensures { λ r. ⌜ r ≡ readerShown (finalizeCall (readerOf reader)) ⌝ }
 {
     shapes::after(reader_offsets::finalize(shapes::reader_of(reader)))
 }
 
 pub(crate) fn retained(reader: Reader) -> ReaderAfter
-    ensures { λ r. ⌜ r ≡ after (retainCall (readerOf reader)) ⌝ }
+    ensures { λ r. ⌜ r ≡ readerShown (retainCall (readerOf reader)) ⌝ }
 {
     shapes::after(reader_offsets::retain_only_last_range_state(shapes::reader_of(reader)))
 }
 
 pub(crate) fn from_set(reader: Reader) -> ReaderAfter
-    ensures { λ r. ⌜ r ≡ after (setFromCall (readerOf reader)) ⌝ }
+    ensures { λ r. ⌜ r ≡ readerShown (setFromCall (readerOf reader)) ⌝ }
 {
     shapes::after(reader_offsets::set_from_to_current_position_in_last_range_state(shapes::reader_of(
         reader,
@@ -127,7 +127,7 @@ pub(crate) fn from_set(reader: Reader) -> ReaderAfter
 }
 
 pub(crate) fn incremented(par_id: u8, reader: Reader) -> ReaderAfter
-    ensures { λ r. ⌜ r ≡ after (incrementCall «par_id» (readerOf reader)) ⌝ }
+    ensures { λ r. ⌜ r ≡ readerShown (incrementCall «par_id» (readerOf reader)) ⌝ }
 {
     shapes::after(reader_offsets::increment_curr_processed_offset(
         shapes::reader_of(reader),
@@ -136,7 +136,7 @@ pub(crate) fn incremented(par_id: u8, reader: Reader) -> ReaderAfter
 }
 
 pub(crate) fn offset_dropped(par_id: u8, drop_skip_offset: bool, reader: Reader) -> ReaderAfter
-    ensures { λ r. ⌜ r ≡ after (dropCall «par_id» «drop_skip_offset» (readerOf reader)) ⌝ }
+    ensures { λ r. ⌜ r ≡ readerShown (dropCall «par_id» «drop_skip_offset» (readerOf reader)) ⌝ }
 {
     shapes::after(reader_offsets::drop_processing_offset(
         shapes::reader_of(reader),
@@ -146,7 +146,7 @@ pub(crate) fn offset_dropped(par_id: u8, drop_skip_offset: bool, reader: Reader)
 }
 
 pub(crate) fn skip_set(par_id: u8, reader: Reader) -> ReaderAfter
-    ensures { λ r. ⌜ r ≡ after (setSkipCall «par_id» (readerOf reader)) ⌝ }
+    ensures { λ r. ⌜ r ≡ readerShown (setSkipCall «par_id» (readerOf reader)) ⌝ }
 {
     shapes::after(reader_offsets::set_skip_processed_offset_to_current(
         shapes::reader_of(reader),
@@ -155,7 +155,7 @@ pub(crate) fn skip_set(par_id: u8, reader: Reader) -> ReaderAfter
 }
 
 pub(crate) fn processed_set(par_id: u8, reader: Reader) -> ReaderAfter
-    ensures { λ r. ⌜ r ≡ after (setProcessedCall «par_id» (readerOf reader)) ⌝ }
+    ensures { λ r. ⌜ r ≡ readerShown (setProcessedCall «par_id» (readerOf reader)) ⌝ }
 {
     shapes::after(reader_offsets::set_processed_to_current_position(
         shapes::reader_of(reader),
@@ -164,7 +164,7 @@ pub(crate) fn processed_set(par_id: u8, reader: Reader) -> ReaderAfter
 }
 
 pub(crate) fn taken(seqno: u32, par_id: u8, taken: u32, reader: Reader) -> ReaderAfter
-    ensures { λ r. ⌜ r ≡ after (takenCall seqno «par_id» taken (readerOf reader)) ⌝ }
+    ensures { λ r. ⌜ r ≡ readerShown (takenCall seqno «par_id» taken (readerOf reader)) ⌝ }
 {
     shapes::after(reader_offsets::messages_taken(shapes::reader_of(reader), seqno, par_id, taken))
 }
@@ -177,7 +177,7 @@ pub(crate) fn all_read(
     refill: bool,
     e: Externals,
 ) -> AllRead
-    ensures { λ r. ⌜ (r ≡ allRead (readAll (now (out .entry)) (now (tables .entry)) (now (area .entry)) (now (routes .entry)) refill e .answer))
+    ensures { λ r. ⌜ (r ≡ readAllShown (readAll (now (out .entry)) (now (tables .entry)) (now (area .entry)) (now (routes .entry)) refill e .answer))
         × (now (out .exit) ≡ readAll (now (out .entry)) (now (tables .entry)) (now (area .entry)) (now (routes .entry)) refill e .out) ⌝ }
 {
     let t = e.transaction;
@@ -210,7 +210,7 @@ pub(crate) fn range_read(
     settings: RangeSettings,
     e: RangeAndCache,
 ) -> RangeRead
-    ensures { λ r. ⌜ (r ≡ rangeRead (readRange (now (out .entry)) (now (tables .entry)) (now (area .entry)) (now (routes .entry)) settings e .answer))
+    ensures { λ r. ⌜ (r ≡ readRangeShown (readRange (now (out .entry)) (now (tables .entry)) (now (area .entry)) (now (routes .entry)) settings e .answer))
         × (now (out .exit) ≡ readRange (now (out .entry)) (now (tables .entry)) (now (area .entry)) (now (routes .entry)) settings e .out) ⌝ }
 {
     let t = e.transaction;

@@ -1,4 +1,5 @@
-// The calls for a host in C or Rust, each under its plain name: what a call changes it is lent by reference, what it only looks at it takes by value.
+// The calls for a host in C or Rust, each under its plain name: what a call changes it is lent by reference, what it
+// only looks at it takes by value.
 // A refused call answers the number and leaves every state and lent byte as at entry.
 ghost use mathlib.Core.Path.{_≡_};
 ghost use lib.ListN.{length};
@@ -9,23 +10,25 @@ ghost use Rattle.externals_reader.specs.Calls.{resetCall, dropLastCall, setLimi
 ghost use Rattle.reader_offsets.specs.Calls.{finalizeCall, limitReachedCall, nonZeroOffsetCall, offsetReachedCall, offsetsReachedCall, countCall, hasMessagesCall, notFullyReadCall, readAndCollectedCall, checkReadAndCollectedCall, allCollectedCall, lastOffsetsCall, retainCall, setFromCall, incrementCall, dropCall, setSkipCall, setProcessedCall, takenCall};
 ghost use Rattle.reader_offsets.specs.Calls as offsets;
 ghost use Rattle.host.specs.Shapes.{readerOf, anchorAnswer, infoAnswer};
-ghost use Rattle.host.specs.Calls.{popped, trimmed, added, oursShown, partitionShown, after, entered, allRead, readAll, rangeRead, readRange};
+ghost use Rattle.host.specs.Calls.{popShown, trimShown, addShown, oursShown, partitionShown, readerShown, newShown, readAllShown, readAll, readRangeShown, readRange};
 use anchors_cache::AnchorInfo;
 use anchors_cache::AnchorsCacheTransaction;
 use anchors_cache::CachedAnchor;
 use anchors_cache::FlagAnswer;
 use anchors_cache::MempoolAnchor;
+use cache_rules::AUTHOR_BYTES;
 use ext_types::ChainTime;
 use ext_types::ExternalKey;
 use ext_types::Seconds;
-use externals_reader::ExternalsPartitionReaderState;
-use externals_reader::MsgsExecutionParams;
 use externals_reader::NextRange;
 use externals_reader::PartitionIds;
-use range_reader::ExternalsRangeReaderState;
-use range_reader::ProcessedTo;
-use range_reader::ReadCounts;
-use reader_offsets::ByPartitions;
+use range_rules::ExternalsRangeReaderState;
+use range_rules::ProcessedTo;
+use range_rules::ReadCounts;
+use reader_rules::ByPartitions;
+use reader_rules::ExternalsPartitionReaderState;
+use reader_rules::MAX_RANGES;
+use reader_rules::MsgsExecutionParams;
 use shard_ident::ShardIdent;
 
 mod cores;
@@ -41,7 +44,7 @@ pub struct SavedTime {
 // The reader's state, with the saved chain time as a mark and a time.
 #[repr(C)]
 pub struct ReaderState {
-    pub ranges: [ExternalsRangeReaderState; 16],
+    pub ranges: [ExternalsRangeReaderState; MAX_RANGES],
     pub len: usize,
     pub by_partitions: [ExternalsPartitionReaderState; 8],
     pub last_read_to_anchor_chain_time: SavedTime,
@@ -93,7 +96,7 @@ pub struct AnchorShown {
     pub number: u8,
     pub found: bool,
     pub anchor: CachedAnchor,
-    pub author: [u8; 32],
+    pub author: [u8; AUTHOR_BYTES],
 }
 
 #[repr(C)]
@@ -101,7 +104,7 @@ pub struct InfoShown {
     pub number: u8,
     pub found: bool,
     pub info: AnchorInfo,
-    pub author: [u8; 32],
+    pub author: [u8; AUTHOR_BYTES],
 }
 
 #[repr(C)]
@@ -217,8 +220,8 @@ pub extern "C" fn ext_pop_front(
     tables: &[u8],
     area: &[u8],
 ) -> AnchorShown
-    ensures { λ r. ⌜ (r ≡ popped (popCall (length (now (area .entry))) (now (tables .entry)) (now (t .entry))) .answer)
-        × (now (t .exit) ≡ popped (popCall (length (now (area .entry))) (now (tables .entry)) (now (t .entry))) .state) ⌝ }
+    ensures { λ r. ⌜ (r ≡ popShown (popCall (length (now (area .entry))) (now (tables .entry)) (now (t .entry))) .answer)
+        × (now (t .exit) ≡ popShown (popCall (length (now (area .entry))) (now (tables .entry)) (now (t .entry))) .state) ⌝ }
 {
     let r = cores::popped(tables, area, *t);
     *t = r.state;
@@ -232,8 +235,8 @@ pub extern "C" fn ext_remove_last_imported_above(
     area: &[u8],
     ct: ChainTime,
 ) -> InfoShown
-    ensures { λ r. ⌜ (r ≡ trimmed (trimCall (length (now (area .entry))) (ct .0) (now (tables .entry)) (now (t .entry))) .answer)
-        × (now (t .exit) ≡ trimmed (trimCall (length (now (area .entry))) (ct .0) (now (tables .entry)) (now (t .entry))) .state) ⌝ }
+    ensures { λ r. ⌜ (r ≡ trimShown (trimCall (length (now (area .entry))) (ct .0) (now (tables .entry)) (now (t .entry))) .answer)
+        × (now (t .exit) ≡ trimShown (trimCall (length (now (area .entry))) (ct .0) (now (tables .entry)) (now (t .entry))) .state) ⌝ }
 {
     let r = cores::trimmed(tables, area, ct, *t);
     *t = r.state;
@@ -250,10 +253,10 @@ pub extern "C" fn ext_add(
     our_exts_count: u32,
     messages: &[u8],
 ) -> u8
-    ensures { λ r. ⌜ (r ≡ added (now (tables .entry)) (now (area .entry)) anchor «our_exts_count» (now (messages .entry)) (now (t .entry)) .done .number)
-        × (now (t .exit) ≡ added (now (tables .entry)) (now (area .entry)) anchor «our_exts_count» (now (messages .entry)) (now (t .entry)) .done .state)
-        × (now (tables .exit) ≡ added (now (tables .entry)) (now (area .entry)) anchor «our_exts_count» (now (messages .entry)) (now (t .entry)) .tables)
-        × (now (area .exit) ≡ added (now (tables .entry)) (now (area .entry)) anchor «our_exts_count» (now (messages .entry)) (now (t .entry)) .area) ⌝ }
+    ensures { λ r. ⌜ (r ≡ addShown (now (tables .entry)) (now (area .entry)) anchor «our_exts_count» (now (messages .entry)) (now (t .entry)) .done .number)
+        × (now (t .exit) ≡ addShown (now (tables .entry)) (now (area .entry)) anchor «our_exts_count» (now (messages .entry)) (now (t .entry)) .done .state)
+        × (now (tables .exit) ≡ addShown (now (tables .entry)) (now (area .entry)) anchor «our_exts_count» (now (messages .entry)) (now (t .entry)) .tables)
+        × (now (area .exit) ≡ addShown (now (tables .entry)) (now (area .entry)) anchor «our_exts_count» (now (messages .entry)) (now (t .entry)) .area) ⌝ }
 {
     let r = cores::added(tables, area, anchor, our_exts_count, messages, *t);
     *t = r.state;
@@ -347,7 +350,7 @@ pub extern "C" fn ext_get_partition(routes: &[u8], message: &[u8]) -> PartitionS
 // The host fills in the reader and the state that it goes on from; the call makes it ready.
 #[no_mangle]
 pub extern "C" fn ext_new_reader(reader: &mut Reader) -> u8
-    ensures { λ r. ⌜ (r ≡ entered (now (reader .entry)) .number) × (now (reader .exit) ≡ entered (now (reader .entry)) .reader) ⌝ }
+    ensures { λ r. ⌜ (r ≡ newShown (now (reader .entry)) .number) × (now (reader .exit) ≡ newShown (now (reader .entry)) .reader) ⌝ }
 {
     let r = cores::entered(*reader);
     *reader = r.reader;
@@ -359,8 +362,8 @@ pub extern "C" fn ext_set_buffer_limits_by_partition(
     reader: &mut Reader,
     limits: BufferLimits,
 ) -> u8
-    ensures { λ r. ⌜ (r ≡ after (setLimitsCall (readerOf (now (reader .entry))) (limits .«by_partitions»)) .number)
-        × (now (reader .exit) ≡ after (setLimitsCall (readerOf (now (reader .entry))) (limits .«by_partitions»)) .reader) ⌝ }
+    ensures { λ r. ⌜ (r ≡ readerShown (setLimitsCall (readerOf (now (reader .entry))) (limits .«by_partitions»)) .number)
+        × (now (reader .exit) ≡ readerShown (setLimitsCall (readerOf (now (reader .entry))) (limits .«by_partitions»)) .reader) ⌝ }
 {
     let r = cores::limits_set(limits, *reader);
     *reader = r.reader;
@@ -369,7 +372,7 @@ pub extern "C" fn ext_set_buffer_limits_by_partition(
 
 #[no_mangle]
 pub extern "C" fn ext_reset_read_state(reader: &mut Reader) -> u8
-    ensures { λ r. ⌜ (r ≡ after (resetCall (readerOf (now (reader .entry)))) .number) × (now (reader .exit) ≡ after (resetCall (readerOf (now (reader .entry)))) .reader) ⌝ }
+    ensures { λ r. ⌜ (r ≡ readerShown (resetCall (readerOf (now (reader .entry)))) .number) × (now (reader .exit) ≡ readerShown (resetCall (readerOf (now (reader .entry)))) .reader) ⌝ }
 {
     let r = cores::reset(*reader);
     *reader = r.reader;
@@ -378,7 +381,7 @@ pub extern "C" fn ext_reset_read_state(reader: &mut Reader) -> u8
 
 #[no_mangle]
 pub extern "C" fn ext_drop_last_read_to_anchor_chain_time(reader: &mut Reader) -> u8
-    ensures { λ r. ⌜ (r ≡ after (dropLastCall (readerOf (now (reader .entry)))) .number) × (now (reader .exit) ≡ after (dropLastCall (readerOf (now (reader .entry)))) .reader) ⌝ }
+    ensures { λ r. ⌜ (r ≡ readerShown (dropLastCall (readerOf (now (reader .entry)))) .number) × (now (reader .exit) ≡ readerShown (dropLastCall (readerOf (now (reader .entry)))) .reader) ⌝ }
 {
     let r = cores::last_dropped(*reader);
     *reader = r.reader;
@@ -387,7 +390,7 @@ pub extern "C" fn ext_drop_last_read_to_anchor_chain_time(reader: &mut Reader) -
 
 #[no_mangle]
 pub extern "C" fn ext_finalize(reader: &mut Reader) -> u8
-    ensures { λ r. ⌜ (r ≡ after (finalizeCall (readerOf (now (reader .entry)))) .number) × (now (reader .exit) ≡ after (finalizeCall (readerOf (now (reader .entry)))) .reader) ⌝ }
+    ensures { λ r. ⌜ (r ≡ readerShown (finalizeCall (readerOf (now (reader .entry)))) .number) × (now (reader .exit) ≡ readerShown (finalizeCall (readerOf (now (reader .entry)))) .reader) ⌝ }
 {
     let r = cores::finalized(*reader);
     *reader = r.reader;
@@ -396,7 +399,7 @@ pub extern "C" fn ext_finalize(reader: &mut Reader) -> u8
 
 #[no_mangle]
 pub extern "C" fn ext_retain_only_last_range_state(reader: &mut Reader) -> u8
-    ensures { λ r. ⌜ (r ≡ after (retainCall (readerOf (now (reader .entry)))) .number) × (now (reader .exit) ≡ after (retainCall (readerOf (now (reader .entry)))) .reader) ⌝ }
+    ensures { λ r. ⌜ (r ≡ readerShown (retainCall (readerOf (now (reader .entry)))) .number) × (now (reader .exit) ≡ readerShown (retainCall (readerOf (now (reader .entry)))) .reader) ⌝ }
 {
     let r = cores::retained(*reader);
     *reader = r.reader;
@@ -405,7 +408,7 @@ pub extern "C" fn ext_retain_only_last_range_state(reader: &mut Reader) -> u8
 
 #[no_mangle]
 pub extern "C" fn ext_set_from_to_current_position_in_last_range_state(reader: &mut Reader) -> u8
-    ensures { λ r. ⌜ (r ≡ after (setFromCall (readerOf (now (reader .entry)))) .number) × (now (reader .exit) ≡ after (setFromCall (readerOf (now (reader .entry)))) .reader) ⌝ }
+    ensures { λ r. ⌜ (r ≡ readerShown (setFromCall (readerOf (now (reader .entry)))) .number) × (now (reader .exit) ≡ readerShown (setFromCall (readerOf (now (reader .entry)))) .reader) ⌝ }
 {
     let r = cores::from_set(*reader);
     *reader = r.reader;
@@ -414,7 +417,7 @@ pub extern "C" fn ext_set_from_to_current_position_in_last_range_state(reader: &
 
 #[no_mangle]
 pub extern "C" fn ext_increment_curr_processed_offset(reader: &mut Reader, par_id: u8) -> u8
-    ensures { λ r. ⌜ (r ≡ after (incrementCall «par_id» (readerOf (now (reader .entry)))) .number) × (now (reader .exit) ≡ after (incrementCall «par_id» (readerOf (now (reader .entry)))) .reader) ⌝ }
+    ensures { λ r. ⌜ (r ≡ readerShown (incrementCall «par_id» (readerOf (now (reader .entry)))) .number) × (now (reader .exit) ≡ readerShown (incrementCall «par_id» (readerOf (now (reader .entry)))) .reader) ⌝ }
 {
     let r = cores::incremented(par_id, *reader);
     *reader = r.reader;
@@ -427,7 +430,7 @@ pub extern "C" fn ext_drop_processing_offset(
     par_id: u8,
     drop_skip_offset: bool,
 ) -> u8
-    ensures { λ r. ⌜ (r ≡ after (dropCall «par_id» «drop_skip_offset» (readerOf (now (reader .entry)))) .number) × (now (reader .exit) ≡ after (dropCall «par_id» «drop_skip_offset» (readerOf (now (reader .entry)))) .reader) ⌝ }
+    ensures { λ r. ⌜ (r ≡ readerShown (dropCall «par_id» «drop_skip_offset» (readerOf (now (reader .entry)))) .number) × (now (reader .exit) ≡ readerShown (dropCall «par_id» «drop_skip_offset» (readerOf (now (reader .entry)))) .reader) ⌝ }
 {
     let r = cores::offset_dropped(par_id, drop_skip_offset, *reader);
     *reader = r.reader;
@@ -436,7 +439,7 @@ pub extern "C" fn ext_drop_processing_offset(
 
 #[no_mangle]
 pub extern "C" fn ext_set_skip_processed_offset_to_current(reader: &mut Reader, par_id: u8) -> u8
-    ensures { λ r. ⌜ (r ≡ after (setSkipCall «par_id» (readerOf (now (reader .entry)))) .number) × (now (reader .exit) ≡ after (setSkipCall «par_id» (readerOf (now (reader .entry)))) .reader) ⌝ }
+    ensures { λ r. ⌜ (r ≡ readerShown (setSkipCall «par_id» (readerOf (now (reader .entry)))) .number) × (now (reader .exit) ≡ readerShown (setSkipCall «par_id» (readerOf (now (reader .entry)))) .reader) ⌝ }
 {
     let r = cores::skip_set(par_id, *reader);
     *reader = r.reader;
@@ -445,7 +448,7 @@ pub extern "C" fn ext_set_skip_processed_offset_to_current(reader: &mut Reader, 
 
 #[no_mangle]
 pub extern "C" fn ext_set_processed_to_current_position(reader: &mut Reader, par_id: u8) -> u8
-    ensures { λ r. ⌜ (r ≡ after (setProcessedCall «par_id» (readerOf (now (reader .entry)))) .number) × (now (reader .exit) ≡ after (setProcessedCall «par_id» (readerOf (now (reader .entry)))) .reader) ⌝ }
+    ensures { λ r. ⌜ (r ≡ readerShown (setProcessedCall «par_id» (readerOf (now (reader .entry)))) .number) × (now (reader .exit) ≡ readerShown (setProcessedCall «par_id» (readerOf (now (reader .entry)))) .reader) ⌝ }
 {
     let r = cores::processed_set(par_id, *reader);
     *reader = r.reader;
@@ -454,7 +457,7 @@ pub extern "C" fn ext_set_processed_to_current_position(reader: &mut Reader, par
 
 #[no_mangle]
 pub extern "C" fn ext_messages_taken(reader: &mut Reader, seqno: u32, par_id: u8, taken: u32) -> u8
-    ensures { λ r. ⌜ (r ≡ after (takenCall seqno «par_id» taken (readerOf (now (reader .entry)))) .number) × (now (reader .exit) ≡ after (takenCall seqno «par_id» taken (readerOf (now (reader .entry)))) .reader) ⌝ }
+    ensures { λ r. ⌜ (r ≡ readerShown (takenCall seqno «par_id» taken (readerOf (now (reader .entry)))) .number) × (now (reader .exit) ≡ readerShown (takenCall seqno «par_id» taken (readerOf (now (reader .entry)))) .reader) ⌝ }
 {
     let r = cores::taken(seqno, par_id, taken, *reader);
     *reader = r.reader;
@@ -563,8 +566,8 @@ pub extern "C" fn ext_read_into_buffers(
     routes: &[u8],
     refill: bool,
 ) -> AllAnswer
-    ensures { λ r. ⌜ (r ≡ allRead (readAll (now (out .entry)) (now (tables .entry)) (now (area .entry)) (now (routes .entry)) refill (now (e .entry)) .answer) .answer)
-        × (now (e .exit) ≡ allRead (readAll (now (out .entry)) (now (tables .entry)) (now (area .entry)) (now (routes .entry)) refill (now (e .entry)) .answer) .state)
+    ensures { λ r. ⌜ (r ≡ readAllShown (readAll (now (out .entry)) (now (tables .entry)) (now (area .entry)) (now (routes .entry)) refill (now (e .entry)) .answer) .answer)
+        × (now (e .exit) ≡ readAllShown (readAll (now (out .entry)) (now (tables .entry)) (now (area .entry)) (now (routes .entry)) refill (now (e .entry)) .answer) .state)
         × (now (out .exit) ≡ readAll (now (out .entry)) (now (tables .entry)) (now (area .entry)) (now (routes .entry)) refill (now (e .entry)) .out) ⌝ }
 {
     let r = cores::all_read(out, tables, area, routes, refill, *e);
@@ -581,8 +584,8 @@ pub extern "C" fn ext_read_externals_into_buffers(
     routes: &[u8],
     settings: RangeSettings,
 ) -> RangeAnswer
-    ensures { λ r. ⌜ (r ≡ rangeRead (readRange (now (out .entry)) (now (tables .entry)) (now (area .entry)) (now (routes .entry)) settings (now (e .entry)) .answer) .answer)
-        × (now (e .exit) ≡ rangeRead (readRange (now (out .entry)) (now (tables .entry)) (now (area .entry)) (now (routes .entry)) settings (now (e .entry)) .answer) .state)
+    ensures { λ r. ⌜ (r ≡ readRangeShown (readRange (now (out .entry)) (now (tables .entry)) (now (area .entry)) (now (routes .entry)) settings (now (e .entry)) .answer) .answer)
+        × (now (e .exit) ≡ readRangeShown (readRange (now (out .entry)) (now (tables .entry)) (now (area .entry)) (now (routes .entry)) settings (now (e .entry)) .answer) .state)
         × (now (out .exit) ≡ readRange (now (out .entry)) (now (tables .entry)) (now (area .entry)) (now (routes .entry)) settings (now (e .entry)) .out) ⌝ }
 {
     let r = cores::range_read(out, tables, area, routes, settings, *e);
@@ -596,7 +599,7 @@ pub extern "C" fn ext_has_pending_externals(
     t: AnchorsCacheTransaction,
     reader: Reader,
 ) -> FlagAnswer
-    ensures { λ r. ⌜ r ≡ offsets.pendingCall (now (tables .entry)) t (readerOf reader) ⌝ }
+    ensures { λ r. ⌜ r ≡ offsets.pendingExternalsCall (now (tables .entry)) t (readerOf reader) ⌝ }
 {
     reader_offsets::has_pending_externals(tables, t, shapes::reader_of(reader))
 }

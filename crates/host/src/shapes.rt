@@ -3,7 +3,7 @@ ghost use mathlib.Core.Path.{_≡_};
 ghost use Rattle.shard_ident.specs.Shard.{answerOf as membership};
 ghost use Rattle.router.specs.Router.{answerOf};
 ghost use Rattle.host.specs.Shapes.{groupMode, rangeMode, lastTime, savedTime, stateOf, readerOf, heldState, heldReader, anchorShown, infoShown};
-ghost use Rattle.host.specs.Calls.{after, oursShown, partitionShown};
+ghost use Rattle.host.specs.Calls.{readerShown, oursShown, partitionShown};
 use crate::AnchorShown;
 use crate::InfoShown;
 use crate::PartitionShown;
@@ -16,13 +16,14 @@ use anchors_cache::CachedAnchor;
 use anchors_cache::FlagAnswer;
 use anchors_cache::FoundAnchor;
 use anchors_cache::FoundInfo;
+use cache_rules::AUTHOR_BYTES;
 use ext_types::ChainTime;
-use externals_reader::ExternalsReader;
-use externals_reader::ExternalsReaderState;
-use externals_reader::GetNextMessageGroupMode;
 use externals_reader::ReaderDone;
-use range_reader::LastChainTime;
-use range_reader::ReadNextExternalsMode;
+use range_rules::LastChainTime;
+use range_rules::ReadNextExternalsMode;
+use reader_rules::ExternalsReader;
+use reader_rules::ExternalsReaderState;
+use reader_rules::GetNextMessageGroupMode;
 use router::Routed;
 use shard_ident::Membership;
 
@@ -138,7 +139,7 @@ pub(crate) fn held_reader(r: ExternalsReader) -> Reader
 }
 
 pub(crate) fn after(d: ReaderDone) -> ReaderAfter
-    ensures { λ r. ⌜ r ≡ after d ⌝ }
+    ensures { λ r. ⌜ r ≡ readerShown d ⌝ }
 {
     ReaderAfter {
         number: d.number,
@@ -146,7 +147,11 @@ pub(crate) fn after(d: ReaderDone) -> ReaderAfter
     }
 }
 
-pub(crate) fn anchor_shown(number: u8, front: FoundAnchor, author: [u8; 32]) -> AnchorShown
+pub(crate) fn anchor_shown(
+    number: u8,
+    front: FoundAnchor,
+    author: [u8; AUTHOR_BYTES],
+) -> AnchorShown
     ensures { λ r. ⌜ r ≡ anchorShown number front author ⌝ }
 {
     let FoundAnchor::Anchor(a) = front else {
@@ -172,7 +177,7 @@ pub(crate) fn anchor_shown(number: u8, front: FoundAnchor, author: [u8; 32]) -> 
     }
 }
 
-pub(crate) fn info_shown(number: u8, last: FoundInfo, author: [u8; 32]) -> InfoShown
+pub(crate) fn info_shown(number: u8, last: FoundInfo, author: [u8; AUTHOR_BYTES]) -> InfoShown
     ensures { λ r. ⌜ r ≡ infoShown number last author ⌝ }
 {
     let FoundInfo::Info(i) = last else {

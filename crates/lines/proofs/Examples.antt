@@ -1,16 +1,12 @@
--- Document 01's example, line by line, and the least and the greatest number.
+-- Document 01's example, line by line.
 use Prim.Native.Nat.{ℕ}
 use mathlib.Core.Path.{_≡_, refl}
 use mathlib.Core.Bool.{true, false}
 use mathlib.Core.List.{[], _∷_}
 use Rattle.rows.specs.Rows.{word, numAt}
-use Rattle.range_reader.specs.declared.ExternalsRangeReaderState.{ExternalsRangeReaderState}
-use Rattle.lines.specs.Lines.{places, decimal, spaced, line, entryLine, rangeLine, endLine}
-
--- open 0
-pub open-line : line (111 ∷ 112 ∷ 101 ∷ 110 ∷ []) (0 ∷ []) ≡ 111 ∷ 112 ∷ 101 ∷ 110 ∷ 32 ∷ 48 ∷ 10 ∷ []
-unfolding line spaced decimal places
-open-line = refl
+use Rattle.range_rules.specs.declared.ExternalsRangeReaderState.{ExternalsRangeReaderState}
+use Rattle.text.specs.Shown.{places, decimal, spaced, line}
+use Rattle.lines.specs.Lines.{entryLine, rangeLine, endLine}
 
 -- add 5 0 1 1 1000
 pub add-line : entryLine (5 ∷ 0 ∷ 0 ∷ 0 ∷ 0 ∷ 0 ∷ 1 ∷ 0 ∷ 0 ∷ 0 ∷ 1 ∷ 0 ∷ 0 ∷ 0 ∷ 0 ∷ 0 ∷ 0 ∷ 0 ∷ 232 ∷ 3 ∷ 0 ∷ 0 ∷ 0 ∷ 0 ∷ 0 ∷ 0 ∷ [])
@@ -39,12 +35,3 @@ pub end-line : (first from base : ℕ)
     ≡ 101 ∷ 110 ∷ 100 ∷ 32 ∷ 50 ∷ 32 ∷ 50 ∷ 32 ∷ 49 ∷ 10 ∷ []
 unfolding endLine line spaced decimal places
 end-line first from base = refl
-
-pub least-decimal : decimal 0 ≡ 48 ∷ []
-unfolding decimal places
-least-decimal = refl
-
-pub greatest-decimal : decimal 18446744073709551615
-    ≡ 49 ∷ 56 ∷ 52 ∷ 52 ∷ 54 ∷ 55 ∷ 52 ∷ 52 ∷ 48 ∷ 55 ∷ 51 ∷ 55 ∷ 48 ∷ 57 ∷ 53 ∷ 53 ∷ 49 ∷ 54 ∷ 49 ∷ 53 ∷ []
-unfolding decimal places
-greatest-decimal = refl

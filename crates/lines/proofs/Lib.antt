@@ -1,4 +1,3 @@
 pub mod Laws
-pub mod Decimals
 pub mod Lengths
 pub mod Examples

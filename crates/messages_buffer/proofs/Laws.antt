@@ -99,21 +99,25 @@ module _ (f : Buffer → Bool) (ls : List ℕ) (ps : List ExternalsPartitionRang
   buffers-put e i r h = rw (buffers-set ls ps i r h) (every-set f (buffers ls ps) i (record { limit = getD ls i 0; partition = r }) e (inside i h))
 
 -- ---- the first "no"
-first-no : (n : ℕ) (l : List ℕ) → (n ≡ 0 → ⊥) → firstNo (n ∷ l) ≡ n
+pub first-no : (n : ℕ) (l : List ℕ) → (n ≡ 0 → ⊥) → firstNo (n ∷ l) ≡ n
 unfolding firstNo
 first-no zero l h = absurd (h refl)
 first-no (suc n) l h = refl
 
-first-yes : (n : ℕ) (l : List ℕ) → n ≡ 0 → firstNo (n ∷ l) ≡ firstNo l
+pub first-yes : (n : ℕ) (l : List ℕ) → n ≡ 0 → firstNo (n ∷ l) ≡ firstNo l
 unfolding firstNo
 first-yes zero l h = refl
 first-yes (suc n) l h = absurd (omega arith)
 
-first-last : (b : Bool) (n : ℕ) → firstNo (pick b 0 n ∷ []) ≡ pick b 0 n
+pub first-zero : (n : ℕ) (l : List ℕ) → firstNo (n ∷ l) ≡ 0 → (n ≡ 0) × (firstNo l ≡ 0)
 unfolding firstNo
-first-last true n = refl
-first-last false zero = refl
-first-last false (suc n) = refl
+first-zero zero l e = (refl, e)
+first-zero (suc n) l e = absurd (omega arith)
+
+pub first-alone : (n : ℕ) → firstNo (n ∷ []) ≡ n
+unfolding firstNo
+first-alone zero = refl
+first-alone (suc n) = refl
 
 module _ (ls : List ℕ) (ps : List ExternalsPartitionRangeReaderState) where
   refused : (n : ℕ) → fillNumber ls ps ≡ n → (n ≡ 0 → ⊥) → record { number = n; full = false } ≡ fillState ls ps
@@ -132,7 +136,7 @@ module _ (ls : List ℕ) (ps : List ExternalsPartitionRangeReaderState) where
     module _ (counts-fit : partitionsNumber ps ≡ 0) where
       last-question : fillNumber ls ps ≡ pick (allLimited ls ps) 0 10
       unfolding fillNumber limitedNumber
-      last-question = first-yes _ _ limits-fit ∙ (first-yes _ _ counts-fit ∙ first-last (allLimited ls ps) 10)
+      last-question = first-yes _ _ limits-fit ∙ (first-yes _ _ counts-fit ∙ first-alone (pick (allLimited ls ps) 0 10))
 
       pub refused-without-limit : allLimited ls ps ≡ false → record { number = 10; full = false } ≡ fillState ls ps
       refused-without-limit e = refused 10 (last-question ∙ pick-no (allLimited ls ps) 0 10 e) (λ q. omega arith)
@@ -187,17 +191,12 @@ number-zero : (b : Bool) (n : ℕ) → 0 < n → pick b 0 n ≡ 0 → b ≡ true
 number-zero true n h e = refl
 number-zero false n h e = absurd (omega arith)
 
-first-zero : (n : ℕ) (l : List ℕ) → firstNo (n ∷ l) ≡ 0 → (n ≡ 0) × (firstNo l ≡ 0)
-unfolding firstNo
-first-zero zero l e = (refl, e)
-first-zero (suc n) l e = absurd (omega arith)
-
 pub all-passed : (ls : List ℕ) (ps : List ExternalsPartitionRangeReaderState) → fillNumber ls ps ≡ 0 → Passed ls ps
 unfolding fillNumber limitedNumber
 all-passed ls ps e =
     let x = first-zero _ _ e in
     let y = first-zero _ _ (x .1) in
-    record { limits-fit = x .0; counts-fit = y .0; limited = number-zero (allLimited ls ps) 10 (omega arith) (sym (first-last (allLimited ls ps) 10) ∙ y .1) }
+    record { limits-fit = x .0; counts-fit = y .0; limited = number-zero (allLimited ls ps) 10 (omega arith) (sym (first-alone (pick (allLimited ls ps) 0 10)) ∙ y .1) }
 
 or-left : (a b : Bool) → (a || b) ≡ true → a ≡ false → b ≡ true
 or-left true b e h = absurd (let z : _≡_ {A = ℕ} 0 1 = cc in omega arith)

@@ -17,6 +17,14 @@ pub struct ExternalsPartitionRangeReaderState {
     pub present: bool,
 }
 
+// An absent partition.
+pub const NO_PARTITION: ExternalsPartitionRangeReaderState = ExternalsPartitionRangeReaderState {
+    count: 0,
+    skip_offset: 0,
+    processed_offset: 0,
+    present: false,
+};
+
 // Number 0 and whether any buffer of the range is full, or the number of the question that was answered "no".
 pub struct FillState {
     pub number: u8,

@@ -17,9 +17,11 @@ pub const NO_ROOM: u8 = 5;
 pub const LONG_LINE: u8 = 6;
 
 // A row for each word that begins a line: the word, the record's kind (0000: it has no head), and the fields.
-// A field is its kind, width, mark and name. Kinds: u number, x hexadecimal number, i number with a sign, l limit, c 32 bytes,
+// A field is its kind, width, mark and name. Kinds: u number, x hexadecimal number, i number with a sign, l limit, c 32
+// bytes,
 // a address, m messages, h bytes, f a 1 that says that what follows is there.
-// Marks: `:` the name is written, `=` it is not, `?` the field may be left out and is 0 then, `+` like `=`, left out with
+// Marks: `:` the name is written, `=` it is not, `?` the field may be left out and is 0 then, `+` like `=`, left out
+// with
 // the one before, `!` the name is the value, `*` any number of words.
 pub const FORMS: [u8; 1264] = *b"shard 0001 i4=workchain x8=prefix
 settings 0003 u8:next_ms u4:timeout_s u4:seqno u1:open_limit u1:waiting l2:limits l2=limit l2=limit l2=limit l2=limit l2=limit l2=limit l2=limit

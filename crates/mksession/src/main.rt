@@ -5,7 +5,8 @@ mod lines;
 mod numbers;
 mod words;
 
-// `number` is that of the line being read, `length` how many of its bytes are there; the text read goes on from `at` to `end`.
+// `number` is that of the line being read, `length` how many of its bytes are there; the text read goes on from `at` to
+// `end`.
 struct Run {
     number: u64,
     length: usize,

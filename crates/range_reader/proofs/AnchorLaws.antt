@@ -9,23 +9,24 @@ use lib.ListN.{length, getD, take, drop, length-append, length-drop, drop-of-len
 use lib.Seq.{sets, drop-drop}
 use borrow.Author.Tests.{eq-eqb, ne-eqb, lt-ltb, le-ltb, ltb-false}
 use Rattle.rows.specs.Rows.{pick, rows}
-use Rattle.rows.proofs.Laws.{pick-yes, pick-no, rows-within, rows-drop, rows-length}
+use Rattle.rows.proofs.Laws.{pick-yes, pick-no, rows-within, rows-drop, rows-length, pick-same, pick-both}
 use Rattle.ext_types.specs.Time.{expiredAt}
 use Rattle.ext_types.specs.declared.ChainTime.{ChainTime}
 use Rattle.shard_ident.specs.declared.ShardIdent.{ShardIdent}
 use Rattle.anchors_cache.specs.declared.AnchorsCache.{AnchorsCache}
 use Rattle.anchors_cache.specs.declared.CachedAnchor.{CachedAnchor}
 use Rattle.anchors_cache.specs.declared.FoundAnchor.the-variants as found
-use Rattle.anchors_cache.specs.Rules.{total}
+use Rattle.cache_rules.specs.Rules.{total, maxAnchors, maxMessages}
 use Rattle.anchors_cache.specs.Tables.{anchors, anchorsOf, anchorAt, withMessages}
 use Rattle.anchors_cache.specs.Calls.{anchorFound, cachedAnchor}
 use Rattle.anchors_cache.proofs.Laws.{anchors-cons, anchors-none, total-more}
-use Rattle.range_reader.specs.declared.Context.{Context}
-use Rattle.range_reader.specs.declared.Walk.{Walk}
-use Rattle.range_reader.specs.declared.RangeRead.{RangeRead}
-use Rattle.range_reader.specs.Rules.{Outcome, silent, followed, endReached, ends, stopped, refusedWith, messageRead, messagesRead, expiredOne, expiredOver, fullyRead, popped, looked, expired, leave, afterPop, isWhole, finished, unread, walked, anchorRead, anchorsRead}
-use Rattle.range_reader.specs.Ready.{Within, Few, Wrote, RangeReady, firstUnread, readOrRefused}
-use Rattle.range_reader.proofs.Counts.{pick-same, pick-both, weaker, within-up, within-refused, message-stepped, expired-one-le}
+use Rattle.range_rules.specs.declared.Context.{Context}
+use Rattle.range_rules.specs.declared.Walk.{Walk}
+use Rattle.range_rules.specs.declared.RangeRead.{RangeRead}
+use Rattle.range_rules.specs.Rules.{Outcome, silent, followed, endReached, ends, stopped, refusedWith, messageRead, messagesRead, expiredOne, expiredOver, fullyRead, popped, looked, expired, leave, afterPop, isWhole, finished, unread, walked, anchorRead, anchorsRead}
+use Rattle.range_rules.specs.Bounds.{Within, Few}
+use Rattle.range_reader.specs.Ready.{Wrote, RangeReady, firstUnread, readOrRefused}
+use Rattle.range_rules.proofs.Counts.{weaker, within-up, within-refused, message-stepped, expired-one-le}
 use Rattle.range_reader.proofs.MessageLaws.{wrote-nothing, wrote-long, wrote-more}
 
 -- ---- step 6
@@ -244,8 +245,8 @@ module _ (x : Context) (routes tables area : List ℕ) (at left place : ℕ) (s 
 -- what the loop over the anchors keeps; `entries` are those written so far, `whole` is what the read comes to
 pub record RangeTurn (x : Context) (routes tables area : List ℕ) (write : Bool) (out₀ : List ℕ) (used₀ : ℕ) (all : Outcome RangeRead) (out : List ℕ) (r : RangeRead) (at left place : ℕ) : Type 0 where
   pub entries : List ℕ
-  pub window : at + left ≤ 32
-  pub few-pops : r .pops + left ≤ 32
+  pub window : at + left ≤ maxAnchors
+  pub few-pops : r .pops + left ≤ maxAnchors
   pub placed : 33 * (place + total (anchors at left tables)) ≤ length area
   pub near : place + total (anchors at left tables) < 2 ^ 63
   pub few : Few x (total (anchors at left tables)) (r .walk)
@@ -272,7 +273,7 @@ module _ (x : Context) (routes tables area : List ℕ) (write : Bool) (out₀ : 
         let t = counted in
         let p : a .place ≡ place = ap (λ (b : CachedAnchor). b .place) ae in
         let f = h .few .few in
-        (omega (arith, h .placed), (omega (arith, h .near), record { few = omega arith; within = within-up x (1024 - total (anchors at left tables)) (r .walk) (h .few .within) (1024 - a .count) (omega arith) }))
+        (omega (arith, h .placed), (omega (arith, h .near), record { few = omega arith; within = within-up x (maxMessages - total (anchors at left tables)) (r .walk) (h .few .within) (maxMessages - a .count) (omega arith) }))
 
     module _ (o : List ℕ) (q : RangeRead) (g : Wrote write (r .walk .buffers .used) out o q (anchorRead x routes (a .id) (a .«chain_time») (rows 33 (a .count) (drop (33 * a .place) area)) r)) where
       abbrev now-read : Outcome RangeRead
@@ -297,14 +298,14 @@ module _ (x : Context) (routes tables area : List ℕ) (write : Bool) (out₀ : 
           let w = h .window in
           let b = h .few .few in
           let l : length (rows 33 (a .count) (drop (33 * a .place) area)) ≡ a .count = rows-length 33 (a .count) (drop (33 * a .place) area) in
-          let k = anchor-kept x routes (a .id) (a .«chain_time») (rows 33 (a .count) (drop (33 * a .place) area)) (1024 - n) r (h .few .within) in
+          let k = anchor-kept x routes (a .id) (a .«chain_time») (rows 33 (a .count) (drop (33 * a .place) area)) (maxMessages - n) r (h .few .within) in
           record {
             entries = h .entries ++ now-read .entries;
             window = omega arith;
             few-pops = omega (arith, h .few-pops, k .few-pops, ap (λ (v : RangeRead). v .pops) (g .value));
             placed = omega (arith, h .placed);
             near = omega (arith, h .near);
-            few = record { few = omega arith; within = rw (g .value) (within-up x (1024 - n + length (rows 33 (a .count) (drop (33 * a .place) area))) (now-read .value .walk) (k .within) (1024 - m) (omega arith)) };
+            few = record { few = omega arith; within = rw (g .value) (within-up x (maxMessages - n + length (rows 33 (a .count) (drop (33 * a .place) area))) (now-read .value .walk) (k .within) (maxMessages - m) (omega arith)) };
             used-part = ap (λ (v : RangeRead). v .walk .buffers .used) (g .value) ∙ (k .used-part ∙ simp length-append (omega (arith, h .used-part)));
             long = wrote-long write (r .walk .buffers .used) out o q now-read g ∙ h .long;
             wrote = wrote-both;

@@ -1,4 +1,5 @@
--- What a caller may count on after a read: its bounds, its bytes, and that of the output only the length decides the answer.
+-- What a caller may count on after a read: its bounds, its bytes, and that of the output only the length decides the
+-- answer.
 use Prim.Native.Nat.{ℕ, _≤_}
 use mathlib.Core.Path.{_≡_, refl, sym, ap, _∙_}
 use mathlib.Core.Bool.{Bool, true, false}
@@ -14,21 +15,23 @@ use Rattle.ext_types.specs.declared.Seconds.{Seconds}
 use Rattle.shard_ident.specs.declared.ShardIdent.{ShardIdent}
 use Rattle.messages_buffer.specs.Fullness.{firstNo}
 use Rattle.anchors_cache.specs.declared.AnchorsCacheTransaction.{AnchorsCacheTransaction}
-use Rattle.range_reader.specs.declared.RangeRead.{RangeRead}
+use Rattle.range_rules.specs.declared.RangeRead.{RangeRead}
 use Rattle.range_reader.specs.declared.ReadExternals.{ReadExternals}
-use Rattle.range_reader.specs.declared.ExternalsRangeReaderState.{ExternalsRangeReaderState}
-use Rattle.range_reader.specs.declared.ProcessedTo.{ProcessedTo}
-use Rattle.range_reader.specs.declared.ReadNextExternalsMode.{ReadNextExternalsMode}
-use Rattle.range_reader.specs.Rules.{Outcome}
+use Rattle.range_rules.specs.declared.ExternalsRangeReaderState.{ExternalsRangeReaderState}
+use Rattle.range_rules.specs.declared.ProcessedTo.{ProcessedTo}
+use Rattle.range_rules.specs.declared.ReadNextExternalsMode.{ReadNextExternalsMode}
+use Rattle.range_rules.specs.Rules.{Outcome}
 use Rattle.range_reader.specs.Calls.{askedNumber, refusedAnswer, doneResult, rangeRead, ReadResult, readCall}
-use Rattle.range_reader.proofs.Numbers.{first-zero, first-alone, passed}
-use Rattle.range_reader.specs.Ready.{AtMost}
+use Rattle.messages_buffer.proofs.Laws.{first-zero, first-alone}
+use Rattle.range_reader.proofs.Numbers.{passed}
+use Rattle.range_rules.specs.Bounds.{AtMost}
 use Rattle.range_reader.proofs.Kept.{steps-kept, every-count-is-at-most-1024}
 use Rattle.range_reader.proofs.Entries.{steps-fit}
+use Rattle.cache_rules.specs.Rules.{maxAnchors, maxMessages}
 
 pub record Bounded (room : ℕ) (q : ReadExternals) : Type 0 where
-  pub counts : AtMost 1024 (q .counts)
-  pub pops : q .pops ≤ 32
+  pub counts : AtMost maxMessages (q .counts)
+  pub pops : q .pops ≤ maxAnchors
   pub used : q .used ≤ room
 
 module _ (tables area : List ℕ) (t : AnchorsCacheTransaction) (shard : ShardIdent) (routes limits : List ℕ) (processed : List ProcessedTo) (timeout : Seconds) (mode : ReadNextExternalsMode) (range : ExternalsRangeReaderState) where
@@ -86,7 +89,7 @@ module _ (tables area : List ℕ) (t : AnchorsCacheTransaction) (shard : ShardId
       asked : eqb (number out) 0 ≡ true → askedNumber tables area t shard routes limits range ≡ 0
       asked e = first-zero _ _ (eqb-true (number out) 0 e) .0
 
-      few : (b : Bool) → eqb (number out) 0 ≡ b → pick b (doneResult tables t range (six-steps out) out) (record { answer = refusedAnswer (number out) range t; out = out }) .answer .pops ≤ 32
+      few : (b : Bool) → eqb (number out) 0 ≡ b → pick b (doneResult tables t range (six-steps out) out) (record { answer = refusedAnswer (number out) range t; out = out }) .answer .pops ≤ maxAnchors
       few true e = steps-kept tables area t shard routes limits processed timeout mode range (length out) (asked e) .few-pops
       few false e = omega arith
 

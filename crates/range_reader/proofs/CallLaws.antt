@@ -10,29 +10,29 @@ use lib.ListN.{length, getD, drop, replicate}
 use lib.Seq.{sets}
 use borrow.Author.Tests.{eq-eqb, ne-eqb}
 use Rattle.rows.specs.Rows.{pick}
-use Rattle.rows.proofs.Laws.{pick-yes, pick-no}
+use Rattle.rows.proofs.Laws.{pick-yes, pick-no, pick-same}
 use Rattle.ext_types.specs.declared.Seconds.{Seconds}
 use Rattle.shard_ident.specs.declared.ShardIdent.{ShardIdent}
 use Rattle.messages_buffer.specs.declared.FillState.{FillState}
 use Rattle.messages_buffer.specs.Fullness.{rangeFull, firstNo}
 use Rattle.anchors_cache.specs.declared.AnchorsCacheTransaction.{AnchorsCacheTransaction}
 use Rattle.anchors_cache.specs.declared.Done.{Done}
-use Rattle.anchors_cache.specs.Rules.{total}
+use Rattle.cache_rules.specs.Rules.{total, maxMessages}
 use Rattle.anchors_cache.specs.Tables.{view, withMessages, anchorsOf}
 use Rattle.anchors_cache.specs.Windows.{poppedTimes}
 use Rattle.anchors_cache.specs.Calls.{answer, popsCall, refusal, withCache}
 use Rattle.anchors_cache.proofs.Asked.{refusal-parts}
-use Rattle.range_reader.specs.declared.Context.{Context}
-use Rattle.range_reader.specs.declared.RangeRead.{RangeRead}
+use Rattle.range_rules.specs.declared.Context.{Context}
+use Rattle.range_rules.specs.declared.RangeRead.{RangeRead}
 use Rattle.range_reader.specs.declared.ReadExternals.{ReadExternals}
-use Rattle.range_reader.specs.declared.ExternalsRangeReaderState.{ExternalsRangeReaderState}
-use Rattle.range_reader.specs.declared.ProcessedTo.{ProcessedTo}
-use Rattle.range_reader.specs.declared.ReadNextExternalsMode.{ReadNextExternalsMode}
-use Rattle.range_reader.specs.Rules.{Outcome, silent, anchorsRead}
+use Rattle.range_rules.specs.declared.ExternalsRangeReaderState.{ExternalsRangeReaderState}
+use Rattle.range_rules.specs.declared.ProcessedTo.{ProcessedTo}
+use Rattle.range_rules.specs.declared.ReadNextExternalsMode.{ReadNextExternalsMode}
+use Rattle.range_rules.specs.Rules.{Outcome, silent, anchorsRead, contextOf, entryOf}
 use Rattle.range_reader.specs.Ready.{RangeReady, readOrRefused}
-use Rattle.range_reader.specs.Calls.{askedNumber, askedState, contextOf, entryOf, refusedAnswer, doneAnswer, rangeRead, ReadResult, readCall, checkCall}
-use Rattle.range_reader.proofs.Counts.{pick-same}
-use Rattle.range_reader.proofs.Numbers.{first-no, first-yes, first-alone, passed}
+use Rattle.range_reader.specs.Calls.{askedNumber, askedState, refusedAnswer, doneAnswer, rangeRead, ReadResult, readCall, checkCall}
+use Rattle.messages_buffer.proofs.Laws.{first-no, first-yes, first-alone}
+use Rattle.range_reader.proofs.Numbers.{passed}
 
 pub zeros : (n i k : ℕ) → getD (replicate n 0) i 0 ≤ k
 zeros zero i k = omega arith
@@ -82,7 +82,7 @@ module _ (tables area : List ℕ) (t : AnchorsCacheTransaction) (shard : ShardId
       call-ready =
           let p = passed tables area t shard routes limits range (sym asked-number ∙ z) in
           let c = refusal-parts (length area) tables t (p .cache-sound) in
-          let k = 1024 - total (anchorsOf tables (t .cache)) in
+          let k = maxMessages - total (anchorsOf tables (t .cache)) in
           rw (xe, at-entry)
           (record {
             fixed = record { shard-sound = p .shard-sound; routes-sound = p .routes-sound; room = refl };

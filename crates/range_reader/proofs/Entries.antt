@@ -18,20 +18,22 @@ use Rattle.router.specs.Router.{partitionOf, routesNumber}
 use Rattle.router.proofs.Laws.{a-partition-is-at-most-7}
 use Rattle.messages_buffer.specs.Fullness.{noPartition, rangeFull, firstNo}
 use Rattle.anchors_cache.specs.declared.AnchorsCacheTransaction.{AnchorsCacheTransaction}
-use Rattle.anchors_cache.specs.Rules.{Anchor}
+use Rattle.cache_rules.specs.Rules.{Anchor}
 use Rattle.anchors_cache.specs.Tables.{view}
-use Rattle.range_reader.specs.declared.Context.{Context}
-use Rattle.range_reader.specs.declared.Walk.{Walk}
-use Rattle.range_reader.specs.declared.RangeRead.{RangeRead}
-use Rattle.range_reader.specs.declared.ProcessedTo.{ProcessedTo}
-use Rattle.range_reader.specs.declared.ReadNextExternalsMode.{ReadNextExternalsMode}
-use Rattle.range_reader.specs.declared.ExternalsRangeReaderState.{ExternalsRangeReaderState}
-use Rattle.range_reader.specs.declared.Verdict.{Verdict}
-use Rattle.range_reader.specs.declared.Verdict.the-variants.{Keep, Buffer, Refuse}
-use Rattle.range_reader.specs.Rules.{Outcome, silent, followed, advanced, ends, stopped, noProcessed, more, refusedWith, readOne, buffered, bufferOne, after, verdictOn, ourRead, messageRead, messagesRead, popped, looked, expiredOver, expired, isWhole, finished, unread, anchorRead, nextRead, anchorsRead}
-use Rattle.range_reader.specs.Calls.{askedNumber, contextOf, entryOf, refusedAnswer, doneResult, rangeRead, readCall}
-use Rattle.range_reader.proofs.Counts.{pick-both, judge-buffer}
-use Rattle.range_reader.proofs.Numbers.{first-zero, passed}
+use Rattle.range_rules.specs.declared.Context.{Context}
+use Rattle.range_rules.specs.declared.Walk.{Walk}
+use Rattle.range_rules.specs.declared.RangeRead.{RangeRead}
+use Rattle.range_rules.specs.declared.ProcessedTo.{ProcessedTo}
+use Rattle.range_rules.specs.declared.ReadNextExternalsMode.{ReadNextExternalsMode}
+use Rattle.range_rules.specs.declared.ExternalsRangeReaderState.{ExternalsRangeReaderState}
+use Rattle.range_rules.specs.declared.Verdict.{Verdict}
+use Rattle.range_rules.specs.declared.Verdict.the-variants.{Keep, Buffer, Refuse}
+use Rattle.range_rules.specs.Rules.{Outcome, silent, followed, advanced, ends, stopped, noProcessed, more, refusedWith, readOne, buffered, bufferOne, after, verdictOn, ourRead, messageRead, messagesRead, popped, looked, expiredOver, expired, isWhole, finished, unread, anchorRead, nextRead, anchorsRead, contextOf, entryOf, entryLen}
+use Rattle.range_reader.specs.Calls.{askedNumber, refusedAnswer, doneResult, rangeRead, readCall}
+use Rattle.rows.proofs.Laws.{pick-both}
+use Rattle.range_rules.proofs.Counts.{judge-buffer}
+use Rattle.messages_buffer.proofs.Laws.{first-zero}
+use Rattle.range_reader.proofs.Numbers.{passed}
 use Rattle.range_reader.proofs.Kept.{steps-kept}
 
 unfoldable pub sumOf : List ℕ → ℕ
@@ -47,7 +49,7 @@ sum-more (n ∷ l) (suc p) h = omega (arith, sum-more l p (omega arith))
 -- the used part of the output is 26 bytes for each message buffered, and lies in the room
 record Tallied (x : Context) (w : Walk) : Type 0 where
   eight : length (w .counts .buffered) ≡ 8
-  used : w .buffers .used ≡ 26 * sumOf (w .counts .buffered)
+  used : w .buffers .used ≡ entryLen * sumOf (w .counts .buffered)
   roomy : w .buffers .used ≤ x .room
 
 module _ (x : Context) (w : Walk) (h : Tallied x w) where
@@ -73,7 +75,7 @@ module _ (x : Context) (w : Walk) (h : Tallied x w) where
       let P : RangeRead → Type 0 = λ q. Tallied x (q .walk) in
       pick-both P (not (eqb (w .number) 0)) _ _ h (pick-both P (ends (x .mode) (w .place .reached)) _ _ h (pick-both P (w .buffers .full) _ _ h (pick-both P (isWhole w count) _ _ h (refused-tallied 11))))
 
-  after-tallied : (v : Verdict) (time : ChainTime) (p : ℕ) → p < 8 → (v ≡ Buffer → w .buffers .used + 26 ≤ x .room) → Tallied x (after v x time p w .value)
+  after-tallied : (v : Verdict) (time : ChainTime) (p : ℕ) → p < 8 → (v ≡ Buffer → w .buffers .used + entryLen ≤ x .room) → Tallied x (after v x time p w .value)
   unfolding readOne bufferOne buffered refusedWith
   after-tallied Keep time p b r = record { eight = h .eight; used = h .used; roomy = h .roomy }
   after-tallied Buffer time p b r =
@@ -94,7 +96,7 @@ module _ (x : Context) (routes : List ℕ) (sound : routesNumber routes ≡ 0) w
       let P : Outcome Walk → Type 0 = λ s. Tallied x (s .value) in
       let g = a-partition-is-at-most-7 routes m sound in
       pick-both P (isOurs (x .shard) m) (ourRead x time p a) (silent a)
-      (after-tallied x a (advanced-tallied x w h) (verdictOn x p a) time p (omega arith) (λ e. leb-true _ _ (judge-buffer (getD (x .processed) p noProcessed) (getD (a .buffers .«by_partitions») p noPartition) (a .place .key) (leb (a .buffers .used + 26) (x .room)) e .0)))
+      (after-tallied x a (advanced-tallied x w h) (verdictOn x p a) time p (omega arith) (λ e. leb-true _ _ (judge-buffer (getD (x .processed) p noProcessed) (getD (a .buffers .«by_partitions») p noPartition) (a .place .key) (leb (a .buffers .used + entryLen) (x .room)) e .0)))
       (advanced-tallied x w h)
 
   messages-tallied : (time : ChainTime) (l : List (List ℕ)) (s : Outcome Walk) → Tallied x (s .value) → Tallied x (messagesRead x routes time l s .value)
@@ -130,7 +132,7 @@ module _ (tables area : List ℕ) (t : AnchorsCacheTransaction) (shard : ShardId
   pub record EntriesWritten : Type 0 where
     pub entries : List ℕ
     pub stored : readCall tables area t shard routes limits processed timeout mode range out .out ≡ sets out 0 entries
-    pub long : length entries ≡ 26 * sumOf (readCall tables area t shard routes limits processed timeout mode range out .answer .counts .buffered)
+    pub long : length entries ≡ entryLen * sumOf (readCall tables area t shard routes limits processed timeout mode range out .answer .counts .buffered)
     pub fits : length entries ≤ length out
 
   abbrev six-steps : Outcome RangeRead
@@ -173,7 +175,7 @@ module _ (tables area : List ℕ) (t : AnchorsCacheTransaction) (shard : ShardId
       tallied : eqb n 0 ≡ true → Tallied (contextOf shard limits processed timeout mode range (length out)) (six-steps .value .walk)
       tallied e = steps-tallied (passed tables area t shard routes limits range (asked e) .routes-sound)
 
-      go-long : (c : Bool) → eqb n 0 ≡ c → length (go-entries c) ≡ 26 * sumOf (pick c (doneResult tables t range six-steps out) (record { answer = refusedAnswer n range t; out = out }) .answer .counts .buffered)
+      go-long : (c : Bool) → eqb n 0 ≡ c → length (go-entries c) ≡ entryLen * sumOf (pick c (doneResult tables t range six-steps out) (record { answer = refusedAnswer n range t; out = out }) .answer .counts .buffered)
       go-long true e = sym (all e) ∙ tallied e .used
       go-long false e = refl
 

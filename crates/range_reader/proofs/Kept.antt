@@ -1,44 +1,34 @@
 -- What is true of a read after any number of anchors: its counts, its pops, its entries.
-use Prim.Native.Nat.{ℕ, suc, _+_, _*_, _≤_, _<_}
+use Prim.Native.Nat.{ℕ, suc, _+_, _*_}
 use mathlib.Core.Path.{_≡_, refl, ap, _∙_}
-use mathlib.Core.Bool.{Bool, true, false, not}
+use mathlib.Core.Bool.{Bool, true, false}
 use mathlib.Core.List.{List, [], _∷_}
-use mathlib.Core.Logic.{_⊎_, inl, inr}
 use native.Mathlib.Omega.{arith}
-use lib.Dec.{eqb, ltb}
-use lib.ListN.{length, getD, drop, length-append}
-use lib.Seq.{sets}
-use borrow.Author.Tests.{le-ltb, eqb-true}
+use lib.Dec.{eqb}
+use lib.ListN.{length, drop, length-append}
+use borrow.Author.Tests.{eqb-true}
 use Rattle.rows.specs.Rows.{pick}
-use Rattle.rows.proofs.Laws.{rows-length}
-use Rattle.ext_types.specs.declared.ChainTime.{ChainTime}
-use Rattle.ext_types.specs.declared.ExternalKey.{ExternalKey}
+use Rattle.rows.proofs.Laws.{rows-length, pick-both}
 use Rattle.ext_types.specs.declared.Seconds.{Seconds}
-use Rattle.ext_types.specs.Time.{expiredAt}
 use Rattle.shard_ident.specs.declared.ShardIdent.{ShardIdent}
 use Rattle.messages_buffer.specs.Fullness.{rangeFull, firstNo}
 use Rattle.anchors_cache.specs.declared.AnchorsCacheTransaction.{AnchorsCacheTransaction}
-use Rattle.anchors_cache.specs.declared.AnchorsCache.{AnchorsCache}
-use Rattle.anchors_cache.specs.Rules.{Anchor, Cache, Row, total}
+use Rattle.cache_rules.specs.Rules.{Anchor, Row, total, maxAnchors, maxMessages}
 use Rattle.anchors_cache.specs.Tables.{view, withMessages, anchorsOf}
-use Rattle.anchors_cache.specs.Windows.{poppedTimes}
-use Rattle.anchors_cache.specs.Calls.{withCache}
 use Rattle.anchors_cache.proofs.Asked.{refusal-parts}
 use Rattle.anchors_cache.proofs.Laws.{anchors-length}
-use Rattle.range_reader.specs.declared.Context.{Context}
-use Rattle.range_reader.specs.declared.Place.{Place}
-use Rattle.range_reader.specs.declared.Walk.{Walk}
-use Rattle.range_reader.specs.declared.RangeRead.{RangeRead}
-use Rattle.range_reader.specs.declared.ReadCounts.{ReadCounts}
-use Rattle.range_reader.specs.declared.ExternalsRangeReaderState.{ExternalsRangeReaderState}
-use Rattle.range_reader.specs.declared.ProcessedTo.{ProcessedTo}
-use Rattle.range_reader.specs.declared.ReadNextExternalsMode.{ReadNextExternalsMode}
-use Rattle.range_reader.specs.Rules.{Outcome, silent, followed, advanced, stopped, refusedWith, messageRead, messagesRead, popped, lookKey, looked, expired, isWhole, ends, finished, unread, walked, anchorRead, nextRead, anchorsRead}
-use Rattle.range_reader.specs.Ready.{AtMost}
-use Rattle.range_reader.specs.Calls.{askedNumber, contextOf, entryOf, refusedAnswer, doneAnswer, doneResult, rangeRead, readCall}
-use Rattle.range_reader.proofs.Counts.{pick-both, within-up}
+use Rattle.range_rules.specs.declared.Context.{Context}
+use Rattle.range_rules.specs.declared.RangeRead.{RangeRead}
+use Rattle.range_rules.specs.declared.ExternalsRangeReaderState.{ExternalsRangeReaderState}
+use Rattle.range_rules.specs.declared.ProcessedTo.{ProcessedTo}
+use Rattle.range_rules.specs.declared.ReadNextExternalsMode.{ReadNextExternalsMode}
+use Rattle.range_rules.specs.Rules.{Outcome, silent, expired, nextRead, anchorsRead, contextOf, entryOf}
+use Rattle.range_rules.specs.Bounds.{AtMost}
+use Rattle.range_reader.specs.Calls.{askedNumber, refusedAnswer, doneResult, rangeRead, readCall}
+use Rattle.range_rules.proofs.Counts.{within-up}
 use Rattle.range_reader.proofs.AnchorLaws.{RangeKept, anchor-kept}
-use Rattle.range_reader.proofs.Numbers.{first-zero, passed}
+use Rattle.messages_buffer.proofs.Laws.{first-zero}
+use Rattle.range_reader.proofs.Numbers.{passed}
 use Rattle.range_reader.proofs.CallLaws.{zeros}
 
 -- how many messages some anchors have
@@ -73,7 +63,7 @@ anchors-long bytes (a ∷ l) = ap suc (anchors-long (drop (33 * a .count) bytes)
 module _ (tables area : List ℕ) (t : AnchorsCacheTransaction) (shard : ShardIdent) (routes limits : List ℕ) (processed : List ProcessedTo) (timeout : Seconds) (mode : ReadNextExternalsMode) (range : ExternalsRangeReaderState) where
   -- at most 1,024 in each count, at most 32 pops, and the used bytes are those of the entries
   pub steps-kept : (room : ℕ) → askedNumber tables area t shard routes limits range ≡ 0
-      → RangeKept (contextOf shard limits processed timeout mode range room) 1024 0 32 (rangeRead tables area t shard routes limits processed timeout mode range room)
+      → RangeKept (contextOf shard limits processed timeout mode range room) maxMessages 0 maxAnchors (rangeRead tables area t shard routes limits processed timeout mode range room)
   unfolding rangeRead view
   steps-kept room z =
       let x = contextOf shard limits processed timeout mode range room in
@@ -88,12 +78,12 @@ module _ (tables area : List ℕ) (t : AnchorsCacheTransaction) (shard : ShardId
       let i = c .in-anchors in
       let g = anchors-kept x routes l 0 0 0 (silent r) (record { within = record { read = λ i. zeros 8 i 0; expired = λ i. zeros 8 i 0; buffered = λ i. zeros 8 i 0; full = refl }; used-part = refl; few-pops = omega arith }) in
       record {
-        within = within-up x (0 + messagesIn l) (anchorsRead x routes l (silent r) .value .walk) (g .within) 1024 (omega arith);
+        within = within-up x (0 + messagesIn l) (anchorsRead x routes l (silent r) .value .walk) (g .within) maxMessages (omega arith);
         used-part = g .used-part;
         few-pops = omega (arith, g .few-pops);
       }
 
-  pub every-count-is-at-most-1024 : (out : List ℕ) → AtMost 1024 (readCall tables area t shard routes limits processed timeout mode range out .answer .counts)
+  pub every-count-is-at-most-1024 : (out : List ℕ) → AtMost maxMessages (readCall tables area t shard routes limits processed timeout mode range out .answer .counts)
   unfolding readCall
   every-count-is-at-most-1024 out = go (eqb number 0) refl
     where
@@ -103,6 +93,6 @@ module _ (tables area : List ℕ) (t : AnchorsCacheTransaction) (shard : ShardId
       number : ℕ
       number = firstNo (askedNumber tables area t shard routes limits range ∷ s .value .walk .number ∷ [])
 
-      go : (b : Bool) → eqb number 0 ≡ b → AtMost 1024 (pick b (doneResult tables t range s out) (record { answer = refusedAnswer number range t; out = out }) .answer .counts)
+      go : (b : Bool) → eqb number 0 ≡ b → AtMost maxMessages (pick b (doneResult tables t range s out) (record { answer = refusedAnswer number range t; out = out }) .answer .counts)
       go true e = let g = steps-kept (length out) (first-zero _ _ (eqb-true number 0 e) .0) .within in record { read = g .read; expired = g .expired; buffered = g .buffered }
-      go false e = record { read = λ i. zeros 8 i 1024; expired = λ i. zeros 8 i 1024; buffered = λ i. zeros 8 i 1024 }
+      go false e = record { read = λ i. zeros 8 i maxMessages; expired = λ i. zeros 8 i maxMessages; buffered = λ i. zeros 8 i maxMessages }

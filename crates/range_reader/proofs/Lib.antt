@@ -1,4 +1,3 @@
-pub mod Counts
 pub mod EntryLaws
 pub mod MessageLaws
 pub mod LocalLaws

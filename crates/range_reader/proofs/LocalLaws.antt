@@ -10,7 +10,7 @@ use lib.ListN.{length, getD, set, take, drop, length-set}
 use lib.Seq.{sets}
 use borrow.Author.Tests.{eqb-true, eq-eqb, ne-eqb}
 use Rattle.rows.specs.Rows.{pick}
-use Rattle.rows.proofs.Laws.{pick-yes, pick-no}
+use Rattle.rows.proofs.Laws.{pick-yes, pick-no, pick-same}
 use Rattle.ext_types.specs.declared.ChainTime.{ChainTime}
 use Rattle.ext_types.specs.declared.ExternalKey.{ExternalKey}
 use Rattle.ext_types.specs.Keys.{keyAbove}
@@ -20,18 +20,19 @@ use Rattle.messages_buffer.specs.Fullness.{rangeFull, noPartition}
 use Rattle.messages_buffer.proofs.Laws.{one-more-full}
 use Rattle.shard_ident.specs.Shard.{isOurs}
 use Rattle.router.specs.Router.{partitionOf}
-use Rattle.range_reader.specs.declared.Context.{Context}
+use Rattle.range_rules.specs.declared.Context.{Context}
 use Rattle.range_reader.specs.declared.Entry.{Entry}
-use Rattle.range_reader.specs.declared.Place.{Place}
+use Rattle.range_rules.specs.declared.Place.{Place}
 use Rattle.range_reader.specs.declared.Progress.{Progress}
 use Rattle.range_reader.specs.declared.Taken.{Taken}
-use Rattle.range_reader.specs.declared.Verdict.{Verdict}
-use Rattle.range_reader.specs.declared.Verdict.the-variants.{Keep, Buffer, Refuse}
-use Rattle.range_reader.specs.declared.Walk.{Walk}
-use Rattle.range_reader.specs.Rules.{endReached, raised, movedTo, keyAt, nextKey, advanced, ends, stopped, noProcessed, judge, more, refusedWith, readOne, buffered, bufferOne, after, verdictOn, ourRead, messageRead}
-use Rattle.range_reader.specs.Ready.{Few, Wrote}
+use Rattle.range_rules.specs.declared.Verdict.{Verdict}
+use Rattle.range_rules.specs.declared.Verdict.the-variants.{Keep, Buffer, Refuse}
+use Rattle.range_rules.specs.declared.Walk.{Walk}
+use Rattle.range_rules.specs.Rules.{endReached, raised, movedTo, keyAt, nextKey, advanced, ends, stopped, noProcessed, judge, more, refusedWith, readOne, buffered, bufferOne, after, verdictOn, ourRead, messageRead, entryLen}
+use Rattle.range_rules.specs.Bounds.{Few}
+use Rattle.range_reader.specs.Ready.{Wrote}
 use Rattle.range_reader.specs.Locals.{progressOf, stoppedAt, placeAt, walkOf, bytesOf, verdictAt, taken, entriesOf}
-use Rattle.range_reader.proofs.Counts.{judge-buffer, pick-same, stopped-full, room-in}
+use Rattle.range_rules.proofs.Counts.{judge-buffer, stopped-full, room-in}
 use Rattle.range_reader.proofs.MessageLaws.{wrote-nothing, Turn, turn-start, turn-next}
 
 -- ---- places
@@ -141,7 +142,7 @@ module _ (x : Context) (start : Walk) where
         entry = record { seqno = x .seqno; partition = p; key = key; time = time }
 
         same-verdict : verdictOn x p next ≡ verdict
-        same-verdict = ap (λ (k : ExternalKey). judge (getD (x .processed) p noProcessed) (getD partitions p noPartition) k (leb (b .used + 26) (x .room))) (place-key (x .«saved_end») (start .place) (offset + 1))
+        same-verdict = ap (λ (k : ExternalKey). judge (getD (x .processed) p noProcessed) (getD partitions p noPartition) k (leb (b .used + entryLen) (x .room))) (place-key (x .«saved_end») (start .place) (offset + 1))
 
         same-entries : (v : Verdict) → entriesOf v entry ≡ after v x time p next .entries
         unfolding entriesOf

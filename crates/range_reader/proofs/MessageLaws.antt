@@ -7,16 +7,18 @@ use native.Mathlib.Omega.{arith}
 use lib.ListN.{length, getD, take, drop, length-append}
 use lib.Seq.{sets, length-sets}
 use Rattle.rows.specs.Rows.{pick, rows}
-use Rattle.rows.proofs.Laws.{sets-append, pick-yes, pick-no, rows-cons}
+use Rattle.rows.proofs.Laws.{sets-append, pick-yes, pick-no, rows-cons, pick-same}
 use Rattle.ext_types.specs.declared.ChainTime.{ChainTime}
 use Rattle.shard_ident.specs.Shard.{isOurs}
 use Rattle.shard_ident.specs.declared.ShardIdent.{ShardIdent}
 use Rattle.router.specs.Router.{partitionOf}
-use Rattle.range_reader.specs.declared.Context.{Context}
-use Rattle.range_reader.specs.declared.Walk.{Walk}
-use Rattle.range_reader.specs.Rules.{Outcome, silent, followed, stopped, more, messageRead, messagesRead, expiredOne, expiredOver}
-use Rattle.range_reader.specs.Ready.{Within, Few, Wrote}
-use Rattle.range_reader.proofs.Counts.{pick-same, message-stepped, expired-one-le}
+use Rattle.range_rules.specs.declared.Context.{Context}
+use Rattle.range_rules.specs.declared.Walk.{Walk}
+use Rattle.range_rules.specs.Rules.{Outcome, silent, followed, stopped, more, messageRead, messagesRead, expiredOne, expiredOver}
+use Rattle.range_rules.specs.Bounds.{Within, Few}
+use Rattle.range_reader.specs.Ready.{Wrote}
+use Rattle.range_rules.proofs.Counts.{message-stepped, expired-one-le}
+use Rattle.cache_rules.specs.Rules.{maxMessages, areaBytes}
 
 -- ---- the output
 pub wrote-nothing : {A : Type 0} (write : Bool) (used : ℕ) (out : List ℕ) (a v : A) → a ≡ v → Wrote write used out out a (silent v)
@@ -59,10 +61,10 @@ module _ (x : Context) (routes : List ℕ) (time : ChainTime) (rest : List ℕ) 
 pub record Turn (x : Context) (routes : List ℕ) (time : ChainTime) (rest : List ℕ) (n : ℕ) (write : Bool) (out₀ : List ℕ) (w₀ : Walk) (out : List ℕ) (w : Walk) (at left : ℕ) : Type 0 where
   pub entries : List ℕ
   pub bytes : at + 33 * left ≤ length rest
-  pub near : at + 33 * left ≤ 33792
-  pub few : left ≤ 1024
+  pub near : at + 33 * left ≤ areaBytes
+  pub few : left ≤ maxMessages
   pub fits : w .place .key .«msgs_offset» + left < 2 ^ 64
-  pub within : Within x (1024 - left) w
+  pub within : Within x (maxMessages - left) w
   pub used : w .buffers .used ≡ w₀ .buffers .used + length entries
   pub long : length out ≡ length out₀
   pub wrote : out ≡ pick write (sets out₀ (w₀ .buffers .used) entries) out₀
@@ -92,8 +94,8 @@ module _ (x : Context) (routes : List ℕ) (time : ChainTime) (rest : List ℕ) 
         let gd : Wrote write (w .buffers .used) out o q t = rw d at g in
         let b = h .bytes in
         let f = h .few in
-        let k : 1024 - (left - 1) ≡ 1024 - left + 1 = omega arith in
-        let s = message-stepped x routes time (take 33 (drop at rest)) (1024 - left) w (h .within) in
+        let k : maxMessages - (left - 1) ≡ maxMessages - left + 1 = omega arith in
+        let s = message-stepped x routes time (take 33 (drop at rest)) (maxMessages - left) w (h .within) in
         record {
           entries = h .entries ++ t .entries;
           bytes = omega arith;
@@ -136,8 +138,8 @@ module _ (shard : ShardIdent) (routes : List ℕ) where
 
   pub record Counted (rest : List ℕ) (n : ℕ) (counts₀ counts : List ℕ) (at left : ℕ) : Type 0 where
     pub bytes : at + 33 * left ≤ length rest
-    pub few : left ≤ 1024
-    pub small : (i : ℕ) → getD counts i 0 ≤ 1024 - left
+    pub few : left ≤ maxMessages
+    pub small : (i : ℕ) → getD counts i 0 ≤ maxMessages - left
     pub over : expiredOver shard routes (rows 33 left (drop at rest)) counts ≡ expiredOver shard routes (rows 33 n rest) counts₀
 
   pub counted-next : (rest : List ℕ) (n : ℕ) (counts₀ counts next : List ℕ) (at left : ℕ) → Counted rest n counts₀ counts at left → 0 < left
@@ -146,12 +148,12 @@ module _ (shard : ShardIdent) (routes : List ℕ) where
       let d : at + 33 - at ≡ 33 = omega arith in
       let b = h .bytes in
       let w = h .few in
-      let k : 1024 - (left - 1) ≡ 1024 - left + 1 = omega arith in
+      let k : maxMessages - (left - 1) ≡ maxMessages - left + 1 = omega arith in
       let g : next ≡ expiredOne shard routes (take 33 (drop at rest)) counts = rw d at f in
       record {
         bytes = omega arith;
         few = omega arith;
-        small = rw (k, g) (expired-one-le shard routes (take 33 (drop at rest)) counts (1024 - left) (h .small));
+        small = rw (k, g) (expired-one-le shard routes (take 33 (drop at rest)) counts (maxMessages - left) (h .small));
         over = rw g (sym (expired-more left at rest counts p) ∙ h .over);
       }
 

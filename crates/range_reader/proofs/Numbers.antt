@@ -1,5 +1,5 @@
 -- The first "no" of the questions, and what a number 0 says.
-use Prim.Native.Nat.{ℕ, suc, zero, _≤_, _<_}
+use Prim.Native.Nat.{ℕ, _≤_, _<_}
 use mathlib.Core.Path.{_≡_, refl, sym, ap, _∙_}
 use mathlib.Core.Bool.{true, false}
 use mathlib.Core.List.{List, [], _∷_}
@@ -17,41 +17,23 @@ use Rattle.messages_buffer.specs.declared.FillState.{FillState}
 use Rattle.messages_buffer.specs.Fullness.{limitsNumber, partitionsNumber, limitedNumber, firstNo, fillNumber, fillState}
 use Rattle.anchors_cache.specs.declared.AnchorsCacheTransaction.{AnchorsCacheTransaction}
 use Rattle.anchors_cache.specs.Calls.{refusal}
-use Rattle.range_reader.specs.declared.ExternalsRangeReaderState.{ExternalsRangeReaderState}
+use Rattle.range_rules.specs.declared.ExternalsRangeReaderState.{ExternalsRangeReaderState}
+use Rattle.messages_buffer.proofs.Laws.{first-no, first-yes, first-zero}
 use Rattle.range_reader.specs.Calls.{askedNumber, askedState}
-
-pub first-no : (n : ℕ) (l : List ℕ) → (n ≡ 0 → ⊥) → firstNo (n ∷ l) ≡ n
-unfolding firstNo
-first-no zero l h = absurd (h refl)
-first-no (suc n) l h = refl
-
-pub first-yes : (n : ℕ) (l : List ℕ) → n ≡ 0 → firstNo (n ∷ l) ≡ firstNo l
-unfolding firstNo
-first-yes zero l h = refl
-first-yes (suc n) l h = absurd (omega arith)
-
-pub first-zero : (n : ℕ) (l : List ℕ) → firstNo (n ∷ l) ≡ 0 → (n ≡ 0) × (firstNo l ≡ 0)
-unfolding firstNo
-first-zero zero l e = (refl, e)
-first-zero (suc n) l e = absurd (omega arith)
-
-pub first-alone : (n : ℕ) → firstNo (n ∷ []) ≡ n
-unfolding firstNo
-first-alone zero = refl
-first-alone (suc n) = refl
+use Rattle.cache_rules.specs.Rules.{areaBytes}
 
 module _ (tables area : List ℕ) (t : AnchorsCacheTransaction) (shard : ShardIdent) (routes limits : List ℕ) (range : ExternalsRangeReaderState) where
   asked-refused : (n : ℕ) (q : FillState) → askedNumber tables area t shard routes limits range ≡ n → (n ≡ 0 → ⊥) → q ≡ record { number = n; full = false } → q ≡ askedState tables area t shard routes limits range
   unfolding askedState
   asked-refused n q e h g = g ∙ rw (e, ne-eqb n 0 h)
 
-  pub asked-1 : (q : FillState) → length area < 33792 → q ≡ record { number = 1; full = false } → q ≡ askedState tables area t shard routes limits range
+  pub asked-1 : (q : FillState) → length area < areaBytes → q ≡ record { number = 1; full = false } → q ≡ askedState tables area t shard routes limits range
   unfolding askedNumber
-  asked-1 q h g = asked-refused 1 q (rw (lt-leb 33792 (length area) h) (first-no 1 _ (λ e. omega arith))) (λ e. omega arith) g
+  asked-1 q h g = asked-refused 1 q (rw (lt-leb areaBytes (length area) h) (first-no 1 _ (λ e. omega arith))) (λ e. omega arith) g
 
-  module _ (a : 33792 ≤ length area) where
-    one : _≡_ {A = ℕ} (pick (leb 33792 (length area)) 0 1) 0
-    one = pick-yes _ _ _ (le-leb 33792 (length area) a)
+  module _ (a : areaBytes ≤ length area) where
+    one : _≡_ {A = ℕ} (pick (leb areaBytes (length area)) 0 1) 0
+    one = pick-yes _ _ _ (le-leb areaBytes (length area) a)
 
     pub asked-2 : (n : ℕ) (q : FillState) → n ≡ shardNumber shard → (n ≡ 0 → ⊥) → q ≡ record { number = n; full = false } → q ≡ askedState tables area t shard routes limits range
     unfolding askedNumber

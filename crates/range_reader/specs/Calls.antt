@@ -1,86 +1,36 @@
 -- What the public call answers, for every argument.
 use Prim.Native.Nat.{ℕ}
-use mathlib.Core.Bool.{Bool, false, _&&_}
+use mathlib.Core.Bool.{false, _&&_}
 use mathlib.Core.List.{List, [], _∷_}
-use lib.Dec.{leb, eqb}
-use lib.ListN.{length, replicate}
+use lib.Dec.{eqb}
+use lib.ListN.{length}
 use lib.Seq.{sets}
 use Rattle.rows.specs.Rows.{pick}
+use Rattle.range_rules.specs.Rules.{sixSteps, rangeQuestions, contextOf, noCounts, Outcome}
 use Rattle.ext_types.specs.declared.Seconds.{Seconds}
-use Rattle.ext_types.specs.Time.{millisOf}
 use Rattle.shard_ident.specs.declared.ShardIdent.{ShardIdent}
-use Rattle.shard_ident.specs.Shard.{shardNumber}
-use Rattle.router.specs.Router.{routesNumber}
 use Rattle.messages_buffer.specs.declared.FillState.{FillState}
-use Rattle.messages_buffer.specs.Fullness.{rangeFull, limitsNumber, partitionsNumber, limitedNumber, firstNo}
+use Rattle.messages_buffer.specs.Fullness.{rangeFull, firstNo}
 use Rattle.anchors_cache.specs.declared.AnchorsCacheTransaction.{AnchorsCacheTransaction}
-use Rattle.anchors_cache.specs.Rules.{ask}
 use Rattle.anchors_cache.specs.Tables.{view}
 use Rattle.anchors_cache.specs.Windows.{poppedTimes}
-use Rattle.anchors_cache.specs.Calls.{areaBytes, refusal, withCache}
-use Rattle.range_reader.specs.declared.Context.{Context}
-use Rattle.range_reader.specs.declared.ReadCounts.{ReadCounts}
-use Rattle.range_reader.specs.declared.RangeRead.{RangeRead}
+use Rattle.anchors_cache.specs.Calls.{refusal, withCache}
+use Rattle.range_rules.specs.declared.RangeRead.{RangeRead}
 use Rattle.range_reader.specs.declared.ReadExternals.{ReadExternals}
-use Rattle.range_reader.specs.declared.ExternalsRangeReaderState.{ExternalsRangeReaderState}
-use Rattle.range_reader.specs.declared.ProcessedTo.{ProcessedTo}
-use Rattle.range_reader.specs.declared.ReadNextExternalsMode.{ReadNextExternalsMode}
-use Rattle.range_reader.specs.declared.LastChainTime.the-variants.{Nothing}
-use Rattle.range_reader.specs.Rules.{Outcome, silent, anchorsRead}
+use Rattle.range_rules.specs.declared.ExternalsRangeReaderState.{ExternalsRangeReaderState}
+use Rattle.range_rules.specs.declared.ProcessedTo.{ProcessedTo}
+use Rattle.range_rules.specs.declared.ReadNextExternalsMode.{ReadNextExternalsMode}
+use Rattle.range_rules.specs.declared.LastChainTime.the-variants.{Nothing}
 
--- questions 1, 2, 3, 4, 5 (of the cache and of the range), 9 and 10
+-- questions 1 to 5, 9 and 10
 unfoldable pub askedNumber : List ℕ → List ℕ → AnchorsCacheTransaction → ShardIdent → List ℕ → List ℕ → ExternalsRangeReaderState → ℕ
-askedNumber tables area t shard routes limits range =
-    firstNo
-    (ask 1 (leb areaBytes (length area)) 0
-    ∷ shardNumber shard
-    ∷ routesNumber routes
-    ∷ limitsNumber limits
-    ∷ refusal (length area) tables t
-    ∷ partitionsNumber (range .«by_partitions»)
-    ∷ ask 9 (t .active) 0
-    ∷ limitedNumber limits (range .«by_partitions»)
-    ∷ [])
+askedNumber tables area t shard routes limits range = rangeQuestions (length area) shard routes limits (refusal (length area) tables t) range (t .active)
 
 unfoldable pub askedState : List ℕ → List ℕ → AnchorsCacheTransaction → ShardIdent → List ℕ → List ℕ → ExternalsRangeReaderState → FillState
 askedState tables area t shard routes limits range =
     record {
       number = askedNumber tables area t shard routes limits range;
       full = eqb (askedNumber tables area t shard routes limits range) 0 && rangeFull limits (range .«by_partitions»);
-    }
-
--- Document 01: "Fix the position and saved end at entry."
-abbrev pub contextOf : ShardIdent → List ℕ → List ProcessedTo → Seconds → ReadNextExternalsMode → ExternalsRangeReaderState → ℕ → Context
-contextOf shard limits processed timeout mode range room =
-    record {
-      shard = shard;
-      seqno = range .seqno;
-      «chain_time» = range .«chain_time»;
-      limit = millisOf timeout;
-      mode = mode;
-      position = range .«current_position»;
-      «saved_end» = range .to;
-      limits = limits;
-      processed = processed;
-      room = room;
-    }
-
-abbrev pub noCounts : ReadCounts
-noCounts = record { read = replicate 8 0; expired = replicate 8 0; buffered = replicate 8 0 }
-
-abbrev pub entryOf : ExternalsRangeReaderState → Bool → RangeRead
-entryOf range full =
-    record {
-      walk = record {
-        number = 0;
-        place = record { key = range .«current_position»; reached = false; position = range .«current_position»; to = range .to };
-        buffers = record { full = full; used = 0; «by_partitions» = range .«by_partitions» };
-        counts = noCounts;
-      };
-      pops = 0;
-      «fully_read» = range .«fully_read»;
-      ended = false;
-      last = Nothing;
     }
 
 -- a refusal gives only the number
@@ -108,11 +58,10 @@ doneAnswer range r t =
       state = t;
     }
 
--- the six steps, from the range as it is at entry, over the cached anchors
+-- the six steps over the cached anchors
 unfoldable pub rangeRead : List ℕ → List ℕ → AnchorsCacheTransaction → ShardIdent → List ℕ → List ℕ → List ProcessedTo → Seconds → ReadNextExternalsMode → ExternalsRangeReaderState → ℕ → Outcome RangeRead
 rangeRead tables area t shard routes limits processed timeout mode range room =
-    anchorsRead (contextOf shard limits processed timeout mode range room) routes (view tables area (t .cache) .anchors)
-    (silent (entryOf range (rangeFull limits (range .«by_partitions»))))
+    sixSteps (contextOf shard limits processed timeout mode range room) routes range (view tables area (t .cache) .anchors)
 
 -- the answer, and the lent output's bytes
 pub record ReadResult : Type 0 where

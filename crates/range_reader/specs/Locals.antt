@@ -8,15 +8,15 @@ use Rattle.ext_types.specs.declared.ExternalKey.{ExternalKey}
 use Rattle.messages_buffer.specs.declared.ExternalsPartitionRangeReaderState.{ExternalsPartitionRangeReaderState}
 use Rattle.messages_buffer.specs.Fullness.{isFull, oneMore}
 use Rattle.range_reader.specs.declared.Entry.{Entry}
-use Rattle.range_reader.specs.declared.Place.{Place}
-use Rattle.range_reader.specs.declared.ProcessedTo.{ProcessedTo}
+use Rattle.range_rules.specs.declared.Place.{Place}
+use Rattle.range_rules.specs.declared.ProcessedTo.{ProcessedTo}
 use Rattle.range_reader.specs.declared.Progress.{Progress}
-use Rattle.range_reader.specs.declared.ReadNextExternalsMode.{ReadNextExternalsMode}
+use Rattle.range_rules.specs.declared.ReadNextExternalsMode.{ReadNextExternalsMode}
 use Rattle.range_reader.specs.declared.Taken.{Taken}
-use Rattle.range_reader.specs.declared.Verdict.{Verdict}
-use Rattle.range_reader.specs.declared.Verdict.the-variants.{Keep, Buffer, Refuse}
-use Rattle.range_reader.specs.declared.Walk.{Walk}
-use Rattle.range_reader.specs.Rules.{endReached, movedTo, keyAt, ends, judge, entryBytes}
+use Rattle.range_rules.specs.declared.Verdict.{Verdict}
+use Rattle.range_rules.specs.declared.Verdict.the-variants.{Keep, Buffer, Refuse}
+use Rattle.range_rules.specs.declared.Walk.{Walk}
+use Rattle.range_rules.specs.Rules.{endReached, movedTo, keyAt, ends, judge, entryBytes, entryLen}
 
 abbrev pub progressOf : Walk → Progress
 progressOf w = record { number = w .number; full = w .buffers .full; used = w .buffers .used }
@@ -43,14 +43,15 @@ abbrev pub bytesOf : Entry → List ℕ
 bytesOf e = entryBytes (e .seqno) (e .partition) (e .key) (e .time)
 
 abbrev pub verdictAt : ProcessedTo → ExternalsPartitionRangeReaderState → ExternalKey → Progress → ℕ → Verdict
-verdictAt processed partition key b room = judge processed partition key (leb (b .used + 26) room)
+verdictAt processed partition key b room = judge processed partition key (leb (b .used + entryLen) room)
 
--- what a verdict changes in the message's partition; no buffer was full, so that partition alone decides whether one is full now
+-- what a verdict changes in the message's partition; no buffer was full, so that partition alone decides whether one is
+-- full now
 unfoldable pub taken : Verdict → ℕ → ExternalsPartitionRangeReaderState → Progress → Taken
 taken Keep limit partition b = record { progress = b; read = 1; buffered = 0; partition = partition }
 taken Buffer limit partition b =
     record {
-      progress = record { number = b .number; full = isFull (partition .count + 1) limit; used = b .used + 26 };
+      progress = record { number = b .number; full = isFull (partition .count + 1) limit; used = b .used + entryLen };
       read = 1;
       buffered = 1;
       partition = oneMore partition;

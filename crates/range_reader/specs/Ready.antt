@@ -4,45 +4,25 @@ use mathlib.Core.Path.{_≡_}
 use mathlib.Core.Bool.{Bool, true}
 use mathlib.Core.List.{List}
 use lib.Dec.{ltb, eqb}
-use lib.ListN.{length, getD}
+use lib.ListN.{length}
 use lib.Seq.{sets}
 use Rattle.rows.specs.Rows.{pick}
+use Rattle.range_rules.specs.Bounds.{Few}
 use Rattle.shard_ident.specs.Shard.{isShard}
 use Rattle.router.specs.Router.{routesNumber}
-use Rattle.messages_buffer.specs.Fullness.{rangeFull}
 use Rattle.anchors_cache.specs.declared.AnchorsCache.{AnchorsCache}
 use Rattle.anchors_cache.specs.declared.CachedAnchor.{CachedAnchor}
-use Rattle.anchors_cache.specs.Rules.{total}
-use Rattle.anchors_cache.specs.Tables.{anchorsOf}
-use Rattle.range_reader.specs.declared.Context.{Context}
-use Rattle.range_reader.specs.declared.ReadCounts.{ReadCounts}
-use Rattle.range_reader.specs.declared.Walk.{Walk}
-use Rattle.range_reader.specs.declared.RangeRead.{RangeRead}
-use Rattle.range_reader.specs.Rules.{Outcome}
+use Rattle.cache_rules.specs.Rules.{total, maxAnchors}
+use Rattle.anchors_cache.specs.Tables.{anchorsOf, tablesBytes}
+use Rattle.range_rules.specs.declared.Context.{Context}
+use Rattle.range_rules.specs.declared.RangeRead.{RangeRead}
+use Rattle.range_rules.specs.Rules.{Outcome}
 
 -- questions 2 and 3 were answered "yes", and the room is the output's length
 pub record Ready (x : Context) (routes out : List ℕ) : Type 0 where
   pub shard-sound : isShard (x .shard) ≡ true
   pub routes-sound : routesNumber routes ≡ 0
   pub room : length out ≡ x .room
-
--- no count is above k, and `full` says whether a buffer is full
-pub record Within (x : Context) (k : ℕ) (w : Walk) : Type 0 where
-  pub read : (i : ℕ) → getD (w .counts .read) i 0 ≤ k
-  pub expired : (i : ℕ) → getD (w .counts .expired) i 0 ≤ k
-  pub buffered : (i : ℕ) → getD (w .counts .buffered) i 0 ≤ k
-  pub full : w .buffers .full ≡ rangeFull (x .limits) (w .buffers .«by_partitions»)
-
--- every count is at most k
-pub record AtMost (k : ℕ) (c : ReadCounts) : Type 0 where
-  pub read : (i : ℕ) → getD (c .read) i 0 ≤ k
-  pub expired : (i : ℕ) → getD (c .expired) i 0 ≤ k
-  pub buffered : (i : ℕ) → getD (c .buffered) i 0 ≤ k
-
--- n more messages leave every count within 1,024
-pub record Few (x : Context) (n : ℕ) (w : Walk) : Type 0 where
-  pub few : n ≤ 1024
-  pub within : Within x (1024 - n) w
 
 -- the answer, and its entries in the output where the run writes
 pub record Wrote {A : Type 0} (write : Bool) (used : ℕ) (before after : List ℕ) (answer : A) (s : Outcome A) : Type 0 where
@@ -56,12 +36,12 @@ pub record AnchorReady (x : Context) (routes area : List ℕ) (a : CachedAnchor)
   pub fixed : Ready x routes out
   pub placed : 33 * (a .place + a .count) ≤ length area
   pub few : Few x (a .count) (r .walk)
-  pub pops : r .pops < 32
+  pub pops : r .pops < maxAnchors
 
 pub record RangeReady (tables area : List ℕ) (c : AnchorsCache) (routes : List ℕ) (x : Context) (r : RangeRead) (out : List ℕ) : Type 0 where
   pub fixed : Ready x routes out
-  pub tall : 14912 ≤ length tables
-  pub window : c .first + c .len ≤ 32
+  pub tall : tablesBytes ≤ length tables
+  pub window : c .first + c .len ≤ maxAnchors
   pub placed : 33 * (c .base + total (anchorsOf tables c)) ≤ length area
   pub few : Few x (total (anchorsOf tables c)) (r .walk)
   pub pops : r .pops ≡ 0

@@ -6,17 +6,12 @@ ghost use Prim.Native.Nat.{_+_, _*_, _-_, _^_, _<_, _≤_};
 ghost use lib.ListN.{length, drop};
 ghost use Rattle.rows.specs.Rows.{rows};
 ghost use Rattle.router.specs.Router.{routesNumber};
-ghost use Rattle.anchors_cache.specs.Rules.{total};
-ghost use Rattle.anchors_cache.specs.Tables.{anchors, anchorsOf, withMessages};
+ghost use Rattle.cache_rules.specs.Rules.{total, maxAnchors, maxMessages};
+ghost use Rattle.anchors_cache.specs.Tables.{anchors, anchorsOf, withMessages, tablesBytes};
 ghost use Rattle.anchors_cache.specs.Calls.{anchorFound};
-ghost use Rattle.range_reader.specs.Rules.{offsetIn, refusedWith, looked, popped, expired, afterPop, leave, finished, anchorRead, fullyRead, anchorsRead};
-ghost use Rattle.range_reader.specs.Refusals.{cannotRefuse};
+ghost use Rattle.range_rules.specs.Rules.{offsetIn, refusedWith, looked, popped, expired, afterPop, leave, finished, anchorRead, fullyRead, anchorsRead};
+ghost use Rattle.range_rules.specs.Refusals.{cannotRefuse};
 ghost use Rattle.range_reader.specs.Ready.{AnchorReady, RangeReady, Wrote, firstUnread, readOrRefused};
-use crate::Context;
-use crate::LastChainTime;
-use crate::Place;
-use crate::RangeRead;
-use crate::Walk;
 use crate::messages;
 use crate::refusals;
 use anchors_cache::AnchorsCache;
@@ -24,11 +19,16 @@ use anchors_cache::CachedAnchor;
 use anchors_cache::FoundAnchor;
 use ext_types::ChainTime;
 use ext_types::ExternalKey;
+use range_rules::Context;
+use range_rules::LastChainTime;
+use range_rules::Place;
+use range_rules::RangeRead;
+use range_rules::Walk;
 use router::MESSAGE_LEN;
 
 // The front of the `left` anchors from index `at` on.
 fn front_anchor(tables: &[u8], at: usize, left: usize, place: usize) -> FoundAnchor
-    requires { ⌜ (at + left ≤ 32) × (14912 ≤ length (now tables)) ⌝ }
+    requires { ⌜ (at + left ≤ maxAnchors) × (tablesBytes ≤ length (now tables)) ⌝ }
     ensures { λ r. ⌜ r ≡ anchorFound place (anchors at left (now (tables .entry))) ⌝ }
 {
     if left == 0 {
@@ -73,7 +73,8 @@ fn looked(x: Context, id: u32, w: Walk) -> Walk
     r
 }
 
-// The first message from the offset on; past the end, the end. The offset is compared as it is, since it may be any 64 bits.
+// The first message from the offset on; past the end, the end. The offset is compared as it is, since it may be any 64
+// bits.
 fn first_unread(offset: u64, count: usize) -> usize
     ensures { λ r. ⌜ (r ≡ firstUnread offset count) × (r ≤ count) × (offset + (count - r) < 2 ^ 64) ⌝ }
 {
@@ -86,7 +87,7 @@ fn first_unread(offset: u64, count: usize) -> usize
 
 // Step 2.
 fn popped(r: RangeRead) -> RangeRead
-    requires { ⌜ r .pops < 32 ⌝ }
+    requires { ⌜ r .pops < maxAnchors ⌝ }
     ensures { λ q. ⌜ q ≡ popped r ⌝ }
 {
     let mut q = r;
@@ -96,7 +97,7 @@ fn popped(r: RangeRead) -> RangeRead
 
 // Step 4: the position is (id, offset), not the anchor's end.
 fn expired(x: Context, time: ChainTime, counts: [u32; 8], w: Walk, r: RangeRead) -> RangeRead
-    requires { ⌜ r .pops < 32 ⌝ }
+    requires { ⌜ r .pops < maxAnchors ⌝ }
     ensures { λ q. ⌜ q ≡ expired x time counts w r ⌝ }
 {
     let old = w.place;
@@ -132,7 +133,7 @@ fn leave(w: Walk, time: ChainTime, pops: usize, fully_read: bool, ended: bool) -
 }
 
 fn after_pop(whole: bool, pops: usize) -> usize
-    requires { ⌜ pops < 32 ⌝ }
+    requires { ⌜ pops < maxAnchors ⌝ }
     ensures { λ q. ⌜ q ≡ afterPop whole pops ⌝ }
 {
     if whole {
@@ -151,7 +152,7 @@ fn refused_with(number: u8, w: Walk) -> Walk
 
 // Step 6, and question 11 where nothing was popped and nothing ends the read.
 fn finished(x: Context, time: ChainTime, count: usize, w: Walk, r: RangeRead) -> RangeRead
-    requires { ⌜ r .pops < 32 ⌝ }
+    requires { ⌜ r .pops < maxAnchors ⌝ }
     ensures { λ q. ⌜ q ≡ finished x time count w r ⌝ }
 {
     let place = w.place;
@@ -270,7 +271,7 @@ fn writes_at_once(
     begin: RangeRead,
     write: bool,
 ) -> bool
-    requires { ⌜ (c .first + c .len ≤ 32) × (14912 ≤ length (now tables)) × (total (anchorsOf (now tables) c) ≤ 1024) × (routesNumber (now routes) ≡ 0) ⌝ }
+    requires { ⌜ (c .first + c .len ≤ maxAnchors) × (tablesBytes ≤ length (now tables)) × (total (anchorsOf (now tables) c) ≤ maxMessages) × (routesNumber (now routes) ≡ 0) ⌝ }
     ensures { λ r. ⌜ r ≡ (write && cannotRefuse x (begin .walk .buffers .«by_partitions») (now (routes .entry)) (anchorsOf (now (tables .entry)) c)) ⌝ }
 {
     if !write {
@@ -282,7 +283,8 @@ fn writes_at_once(
     refusals::cannot_refuse(tables, c, routes, x, partitions)
 }
 
-// First without writing, unless it is certain that the read is not refused; where that run is not refused and `write` is set, once more with writing.
+// First without writing, unless it is certain that the read is not refused; where that run is not refused and `write`
+// is set, once more with writing.
 pub(crate) fn read_or_refuse(
     tables: &[u8],
     area: &[u8],

@@ -2,59 +2,30 @@
 // A refused read answers the number and leaves transaction, range and every output byte as at entry.
 ghost use mathlib.Core.Path.{_≡_};
 ghost use Rattle.rows.specs.Rows.{pick};
-ghost use Rattle.range_reader.specs.Calls.{readCall, checkCall, contextOf, entryOf, refusedAnswer, doneAnswer};
+ghost use Rattle.range_reader.specs.Calls.{readCall, checkCall, refusedAnswer, doneAnswer};
+ghost use Rattle.range_rules.specs.Rules.{contextOf, entryOf};
 use anchors_cache::AnchorsCacheTransaction;
 use ext_types::ChainTime;
 use ext_types::ExternalKey;
 use ext_types::Seconds;
 use messages_buffer::ExternalsPartitionRangeReaderState;
+use range_rules::Buffers;
+use range_rules::Context;
+use range_rules::ExternalsRangeReaderState;
+use range_rules::LastChainTime;
+use range_rules::NO_COUNTS;
+use range_rules::Place;
+use range_rules::ProcessedTo;
+use range_rules::RangeRead;
+use range_rules::ReadCounts;
+use range_rules::ReadNextExternalsMode;
+use range_rules::Walk;
 use shard_ident::ShardIdent;
 
 mod anchors;
 mod messages;
 mod questions;
 mod refusals;
-
-// Bytes of an output entry.
-pub const ENTRY_LEN: usize = 26;
-
-// A range; `current_position` is the place after the last message read, `to` the furthest place ever read to.
-#[repr(C)]
-pub struct ExternalsRangeReaderState {
-    pub seqno: u32,
-    pub from: ExternalKey,
-    pub to: ExternalKey,
-    pub current_position: ExternalKey,
-    pub chain_time: ChainTime,
-    pub fully_read: bool,
-    pub by_partitions: [ExternalsPartitionRangeReaderState; 8],
-}
-
-pub enum ReadNextExternalsMode {
-    ToTheEnd,
-    ToPreviuosReadTo,
-}
-
-// A partition's processed position, if it has one.
-#[repr(C)]
-pub struct ProcessedTo {
-    pub key: ExternalKey,
-    pub present: bool,
-}
-
-// The chain time of the last anchor looked at.
-pub enum LastChainTime {
-    Nothing,
-    Time(ChainTime),
-}
-
-// Messages of ours per partition.
-#[repr(C)]
-pub struct ReadCounts {
-    pub read: [u32; 8],
-    pub expired: [u32; 8],
-    pub buffered: [u32; 8],
-}
 
 // `pops` anchors went from the cache; the entries take the first `used` bytes of the output.
 pub struct ReadExternals {
@@ -68,36 +39,8 @@ pub struct ReadExternals {
     pub state: AnchorsCacheTransaction,
 }
 
-// What a read fixes at entry. `saved_end` is document 01's saved end: the range's "to" as it is then. `room` is the length of the lent output.
-pub struct Context {
-    pub shard: ShardIdent,
-    pub seqno: u32,
-    pub chain_time: ChainTime,
-    pub limit: ChainTime,
-    pub mode: ReadNextExternalsMode,
-    pub position: ExternalKey,
-    pub saved_end: ExternalKey,
-    pub limits: [u16; 8],
-    pub processed: [ProcessedTo; 8],
-    pub room: usize,
-}
-
-// `key` is the id and offset of the anchor looked at; the position follows it only when a message is read or the anchor is expired.
-pub struct Place {
-    pub key: ExternalKey,
-    pub reached: bool,
-    pub position: ExternalKey,
-    pub to: ExternalKey,
-}
-
-// The range's buffers, whether one is full, and how many bytes of the output are used.
-pub struct Buffers {
-    pub full: bool,
-    pub used: usize,
-    pub by_partitions: [ExternalsPartitionRangeReaderState; 8],
-}
-
-// What the walk over an anchor's messages has come to beside its counts: the refusal, whether a buffer is full, the bytes used.
+// What the walk over an anchor's messages has come to beside its counts: the refusal, whether a buffer is full, the
+// bytes used.
 pub struct Progress {
     pub number: u8,
     pub full: bool,
@@ -118,28 +61,6 @@ pub struct Taken {
     pub read: u32,
     pub buffered: u32,
     pub partition: ExternalsPartitionRangeReaderState,
-}
-
-pub struct Walk {
-    pub number: u8,
-    pub place: Place,
-    pub buffers: Buffers,
-    pub counts: ReadCounts,
-}
-
-pub struct RangeRead {
-    pub walk: Walk,
-    pub pops: usize,
-    pub fully_read: bool,
-    pub ended: bool,
-    pub last: LastChainTime,
-}
-
-// What becomes of a message of ours.
-pub enum Verdict {
-    Keep,
-    Buffer,
-    Refuse(u8),
 }
 
 fn context_of(
@@ -187,17 +108,11 @@ fn at_entry(range: ExternalsRangeReaderState, full: bool) -> RangeRead
         used: 0,
         by_partitions: partitions,
     };
-    let zeros = [0u32; 8];
-    let counts = ReadCounts {
-        read: zeros,
-        expired: zeros,
-        buffered: zeros,
-    };
     let walk = Walk {
         number: 0,
         place: place,
         buffers: buffers,
-        counts: counts,
+        counts: NO_COUNTS,
     };
     let last = LastChainTime::Nothing;
     RangeRead {
@@ -216,12 +131,6 @@ fn refused_answer(
 ) -> ReadExternals
     ensures { λ r. ⌜ r ≡ refusedAnswer number range t ⌝ }
 {
-    let zeros = [0u32; 8];
-    let counts = ReadCounts {
-        read: zeros,
-        expired: zeros,
-        buffered: zeros,
-    };
     let last = LastChainTime::Nothing;
     ReadExternals {
         number: number,
@@ -229,7 +138,7 @@ fn refused_answer(
         full: false,
         pops: 0,
         used: 0,
-        counts: counts,
+        counts: NO_COUNTS,
         range: range,
         state: t,
     }
@@ -307,7 +216,8 @@ fn read_or_check(
     done_answer(range, r, state)
 }
 
-// One range's read. Where a question could refuse it half-way, a first run that writes nothing decides the number, so that a refusal leaves the output as it is.
+// One range's read. Where a question could refuse it half-way, a first run that writes nothing decides the number, so
+// that a refusal leaves the output as it is.
 pub fn read_externals_into_buffers(
     tables: &[u8],
     area: &[u8],

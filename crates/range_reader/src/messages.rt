@@ -8,30 +8,30 @@ ghost use lib.ListN.{length, getD};
 ghost use Rattle.rows.specs.Rows.{pick, rows};
 ghost use Rattle.shard_ident.specs.Shard.{isShard, isOurs};
 ghost use Rattle.router.specs.Router.{partitionOf, routesNumber};
-ghost use Rattle.range_reader.specs.declared.Verdict.the-variants.{Keep, Buffer, Refuse};
-ghost use Rattle.range_reader.specs.Rules.{endReached, raised, movedTo, ends, judge, messagesRead, expiredOver};
-ghost use Rattle.range_reader.specs.Ready.{Ready, Few, Wrote};
+ghost use Rattle.range_rules.specs.declared.Verdict.the-variants.{Keep, Buffer, Refuse};
+ghost use Rattle.range_rules.specs.Rules.{endReached, raised, movedTo, ends, judge, messagesRead, expiredOver, entryLen};
+ghost use Rattle.range_reader.specs.Ready.{Ready, Wrote};
+ghost use Rattle.range_rules.specs.Bounds.{Few};
 ghost use Rattle.range_reader.specs.Locals.{stoppedAt, placeAt, progressOf, walkOf, bytesOf, verdictAt, taken, entriesOf};
-use crate::Buffers;
-use crate::Context;
-use crate::ENTRY_LEN;
+ghost use Rattle.cache_rules.specs.Rules.{maxMessages};
 use crate::Entry;
-use crate::Place;
-use crate::ProcessedTo;
 use crate::Progress;
-use crate::ReadCounts;
-use crate::ReadNextExternalsMode;
 use crate::Taken;
-use crate::Verdict;
-use crate::Walk;
 use ext_types::ChainTime;
 use ext_types::ExternalKey;
 use ext_types::key_above;
 use ext_types::key_equal;
 use messages_buffer::ExternalsPartitionRangeReaderState;
+use range_rules::Buffers;
+use range_rules::Context;
+use range_rules::ENTRY_LEN;
+use range_rules::Place;
+use range_rules::ProcessedTo;
+use range_rules::ReadCounts;
+use range_rules::ReadNextExternalsMode;
+use range_rules::Verdict;
+use range_rules::Walk;
 use router::MESSAGE_LEN;
-use router::ROUTE_LEN;
-use rows::Found;
 use shard_ident::Membership;
 use shard_ident::ShardIdent;
 
@@ -118,16 +118,12 @@ fn is_ours(shard: ShardIdent, m: &[u8]) -> bool
     }
 }
 
-// Question 3 has been asked already, so the route's row is looked up without asking it again.
+// Question 3 has been asked already.
 fn partition_of(routes: &[u8], m: &[u8]) -> usize
-    requires { ⌜ (routesNumber (now routes) ≡ 0) × (length (now m) ≡ 33) ⌝ }
+    requires { ⌜ routesNumber (now routes) ≡ 0 ⌝ }
     ensures { λ r. ⌜ (r ≡ partitionOf (now (routes .entry)) (now (m .entry))) × (r < 8) ⌝ }
 {
-    let found = rows::find_row(routes, ROUTE_LEN, m);
-    let Found::At(i) = found else {
-        return 0;
-    };
-    rows::byte_at(routes, ROUTE_LEN * i + MESSAGE_LEN) as usize
+    router::partition_of(routes, m) as usize
 }
 
 // What becomes of a message of ours at a key: questions 12, 13 and 14.
@@ -184,7 +180,7 @@ fn refused(n: u8, partition: ExternalsPartitionRangeReaderState, b: Progress) ->
 
 // The buffer has room, so one more is within its limit.
 fn buffered(limit: u16, partition: ExternalsPartitionRangeReaderState, b: Progress) -> Taken
-    requires { ⌜ (partition .count + 1 ≤ limit) × (b .used + 26 < 2 ^ 64) ⌝ }
+    requires { ⌜ (partition .count + 1 ≤ limit) × (b .used + entryLen < 2 ^ 64) ⌝ }
     ensures { λ r. ⌜ r ≡ taken Buffer limit partition b ⌝ }
 {
     let mut next = partition;
@@ -205,7 +201,7 @@ fn buffered(limit: u16, partition: ExternalsPartitionRangeReaderState, b: Progre
 
 // An output entry: seqno, partition, anchor id, offset after reading, the anchor's chain time.
 fn put_entry(out: &mut [u8], at: usize, e: Entry)
-    requires { ⌜ at + 26 ≤ length (now out) ⌝ }
+    requires { ⌜ at + entryLen ≤ length (now out) ⌝ }
     ensures { λ _. ⌜ now (out .exit) ≡ sets (now (out .entry)) at (bytesOf e) ⌝ }
 {
     let key = e.key;
@@ -220,7 +216,7 @@ fn put_entry(out: &mut [u8], at: usize, e: Entry)
 
 // An entry, where the run writes.
 fn put_if(write: bool, out: &mut [u8], at: usize, e: Entry)
-    requires { ⌜ at + 26 ≤ length (now out) ⌝ }
+    requires { ⌜ at + entryLen ≤ length (now out) ⌝ }
     ensures { λ _. ⌜ now (out .exit) ≡ pick write (sets (now (out .entry)) at (bytesOf e)) (now (out .entry)) ⌝ }
 {
     if write {
@@ -301,7 +297,8 @@ fn walk_of(
     }
 }
 
-// The n messages of the rest of an anchor, in order, until the walk is stopped. The walk's arrays are locals that are changed in place; its place follows from the offset.
+// The n messages of the rest of an anchor, in order, until the walk is stopped. The walk's arrays are locals that are
+// changed in place; its place follows from the offset.
 pub(crate) fn messages_read(
     x: Context,
     routes: &[u8],
@@ -388,7 +385,7 @@ pub(crate) fn count_expired(
     n: usize,
     start: [u32; 8],
 ) -> [u32; 8]
-    requires { ⌜ (isShard shard ≡ true) × (routesNumber (now routes) ≡ 0) × (33 * n ≤ length (now rest)) × (n ≤ 1024) × ((i : ℕ) → getD start i 0 ≤ 1024 - n) ⌝ }
+    requires { ⌜ (isShard shard ≡ true) × (routesNumber (now routes) ≡ 0) × (33 * n ≤ length (now rest)) × (n ≤ maxMessages) × ((i : ℕ) → getD start i 0 ≤ maxMessages - n) ⌝ }
     ensures { λ r. ⌜ r ≡ expiredOver shard (now (routes .entry)) (rows 33 n (now (rest .entry))) start ⌝ }
 {
     let mut counts = start;

@@ -2,12 +2,11 @@
 ghost use mathlib.Core.Path.{_≡_};
 ghost use mathlib.Core.Bool.{false};
 ghost use Rattle.range_reader.specs.Calls.{askedState};
-use crate::ExternalsRangeReaderState;
 use anchors_cache::AnchorsCacheTransaction;
+use cache_rules::AREA_BYTES;
 use messages_buffer::FillState;
+use range_rules::ExternalsRangeReaderState;
 use shard_ident::ShardIdent;
-
-const AREA_BYTES: usize = 33792;
 
 fn refused(number: u8) -> FillState
     ensures { λ r. ⌜ r ≡ record { number = number; full = false } ⌝ }

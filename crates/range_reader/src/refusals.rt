@@ -1,19 +1,20 @@
-// Whether it is certain at entry that no question refuses the read half-way: then no run is needed that only decides the number.
+// Whether it is certain at entry that no question refuses the read half-way: then no run is needed that only decides
+// the number.
 ghost use mathlib.Core.Path.{_≡_};
 ghost use Prim.Native.Nat.{_+_, _≤_};
 ghost use lib.Dec.{leb};
 ghost use lib.ListN.{length};
 ghost use Rattle.router.specs.Router.{routesNumber};
-ghost use Rattle.anchors_cache.specs.Rules.{total};
-ghost use Rattle.anchors_cache.specs.Tables.{anchors, anchorsOf};
-ghost use Rattle.range_reader.specs.Rules.{offsetIn};
-ghost use Rattle.range_reader.specs.Refusals.{allOpen, allFit, cannotRefuse};
-use crate::Context;
-use crate::ENTRY_LEN;
-use crate::ProcessedTo;
+ghost use Rattle.cache_rules.specs.Rules.{total, maxAnchors, maxMessages};
+ghost use Rattle.anchors_cache.specs.Tables.{anchors, anchorsOf, tablesBytes};
+ghost use Rattle.range_rules.specs.Rules.{offsetIn};
+ghost use Rattle.range_rules.specs.Refusals.{allOpen, allFit, cannotRefuse};
 use anchors_cache::AnchorsCache;
 use ext_types::ExternalKey;
 use messages_buffer::ExternalsPartitionRangeReaderState;
+use range_rules::Context;
+use range_rules::ENTRY_LEN;
+use range_rules::ProcessedTo;
 use router::MESSAGE_LEN;
 use router::ROUTE_LEN;
 
@@ -60,7 +61,7 @@ fn starts_within(position: ExternalKey, id: u32, count: usize) -> bool
 
 // Questions 11 and 14, for every anchor of the window.
 fn all_fit(tables: &[u8], first: usize, len: usize, position: ExternalKey, room: usize) -> bool
-    requires { ⌜ (first + len ≤ 32) × (14912 ≤ length (now tables)) × (total (anchors first len (now tables)) ≤ 1024) ⌝ }
+    requires { ⌜ (first + len ≤ maxAnchors) × (tablesBytes ≤ length (now tables)) × (total (anchors first len (now tables)) ≤ maxMessages) ⌝ }
     ensures { λ r. ⌜ r ≡ allFit position room (anchors first len (now (tables .entry))) ⌝ }
 {
     let mut at = first;
@@ -85,7 +86,7 @@ pub(crate) fn cannot_refuse(
     x: Context,
     partitions: [ExternalsPartitionRangeReaderState; 8],
 ) -> bool
-    requires { ⌜ (c .first + c .len ≤ 32) × (14912 ≤ length (now tables)) × (total (anchorsOf (now tables) c) ≤ 1024) × (routesNumber (now routes) ≡ 0) ⌝ }
+    requires { ⌜ (c .first + c .len ≤ maxAnchors) × (tablesBytes ≤ length (now tables)) × (total (anchorsOf (now tables) c) ≤ maxMessages) × (routesNumber (now routes) ≡ 0) ⌝ }
     ensures { λ r. ⌜ r ≡ cannotRefuse x partitions (now (routes .entry)) (anchorsOf (now (tables .entry)) c) ⌝ }
 {
     let processed = x.processed;

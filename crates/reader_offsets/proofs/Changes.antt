@@ -11,15 +11,14 @@ use borrow.Author.Tests.{leb-true, leb-false, le-leb, lt-leb}
 use Rattle.rows.specs.Rows.{pick, part}
 use Rattle.rows.proofs.Laws.{pick-yes, pick-no, drop-take}
 use Rattle.messages_buffer.specs.declared.ExternalsPartitionRangeReaderState.{ExternalsPartitionRangeReaderState}
-use Rattle.messages_buffer.specs.Fullness.{noPartition, partitionsNumber}
+use Rattle.messages_buffer.specs.Fullness.{noPartition, partitionsNumber, bufferCap}
 use Rattle.messages_buffer.proofs.Laws.{count-within}
-use Rattle.range_reader.specs.declared.ExternalsRangeReaderState.{ExternalsRangeReaderState}
-use Rattle.externals_reader.specs.declared.ExternalsPartitionReaderState.{ExternalsPartitionReaderState}
-use Rattle.externals_reader.specs.declared.ExternalsReader.{ExternalsReader}
-use Rattle.externals_reader.specs.Calls.{withMark}
-use Rattle.externals_reader.specs.State.{noRange, heldRanges, stateNumber}
-use Rattle.reader_offsets.specs.declared.Tally.{Tally}
-use Rattle.reader_offsets.specs.Rules.{recordAt, recordOf, rangeAt, lastRange, lastOnly, onPlace, onLast, larger, noTally, tallied, tallyFrom, tallyOf, withRecord, onRecord, marked, raisedRange, finalized, withRanges, withHeld}
+use Rattle.range_rules.specs.declared.ExternalsRangeReaderState.{ExternalsRangeReaderState}
+use Rattle.reader_rules.specs.declared.ExternalsPartitionReaderState.{ExternalsPartitionReaderState}
+use Rattle.reader_rules.specs.declared.ExternalsReader.{ExternalsReader}
+use Rattle.reader_rules.specs.State.{withMark, noRange, heldRanges, stateNumber}
+use Rattle.reader_rules.specs.declared.Tally.{Tally}
+use Rattle.reader_rules.specs.Offsets.{recordAt, recordOf, rangeAt, lastRange, lastOnly, onPlace, onLast, larger, noTally, tallied, tallyFrom, tallyOf, withRecord, onRecord, marked, raisedRange, finalized, withRanges, withHeld}
 use Rattle.externals_reader.proofs.Sound.{sound-parts, sound-counts}
 use Rattle.reader_offsets.proofs.Held.{held-length, held-past, holds}
 
@@ -49,7 +48,7 @@ module _ (xs : List ExternalsRangeReaderState) (len : ℕ) (fits : len ≤ lengt
       go false q = leb-false len at q
 
 -- ---- what a partition's counts add up to
-record-small : (t : Tally) (ps : List ExternalsPartitionRangeReaderState) (i : ℕ) → partitionsNumber ps ≡ 0 → tallied t (recordAt i ps) .count ≤ t .count + 1024
+record-small : (t : Tally) (ps : List ExternalsPartitionRangeReaderState) (i : ℕ) → partitionsNumber ps ≡ 0 → tallied t (recordAt i ps) .count ≤ t .count + bufferCap
 record-small t ps i e = go (recordAt i ps .present) refl
   where
     inside : recordAt i ps .present ≡ true → i < length ps
@@ -62,7 +61,7 @@ record-small t ps i e = go (recordAt i ps .present) refl
             (let w : _≡_ {A = ℕ} 0 1 = ap (λ (b : Bool). pick b 0 1) z in omega arith))
         at false q = leb-false (length ps) i q
 
-    go : (b : Bool) → recordAt i ps .present ≡ b → tallied t (recordAt i ps) .count ≤ t .count + 1024
+    go : (b : Bool) → recordAt i ps .present ≡ b → tallied t (recordAt i ps) .count ≤ t .count + bufferCap
     go true p =
         let q = ap (λ (z : Tally). z .count) (pick-yes (recordAt i ps .present) (record { present = true; count = t .count + recordAt i ps .count; processed = larger (t .processed) (recordAt i ps .«processed_offset») }) t p) in
         let w = count-within ps e i (inside p) p in
@@ -71,7 +70,7 @@ record-small t ps i e = go (recordAt i ps .present) refl
         let q = ap (λ (z : Tally). z .count) (pick-no (recordAt i ps .present) (record { present = true; count = t .count + recordAt i ps .count; processed = larger (t .processed) (recordAt i ps .«processed_offset») }) t p) in
         omega (arith, q)
 
-tally-small : (i : ℕ) (t : Tally) (l : List ExternalsRangeReaderState) → ((j : ℕ) → j < length l → partitionsNumber (getD l j noRange .«by_partitions») ≡ 0) → tallyFrom i t l .count ≤ t .count + 1024 * length l
+tally-small : (i : ℕ) (t : Tally) (l : List ExternalsRangeReaderState) → ((j : ℕ) → j < length l → partitionsNumber (getD l j noRange .«by_partitions») ≡ 0) → tallyFrom i t l .count ≤ t .count + bufferCap * length l
 unfolding tallyFrom
 tally-small i t [] h = omega arith
 tally-small i t (r ∷ l) h =

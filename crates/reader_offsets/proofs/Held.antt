@@ -6,10 +6,10 @@ use native.Mathlib.Omega.{arith}
 use native.Mathlib.Numerals.{add-one}
 use lib.ListN.{length, getD, take, drop, set, length-set, take-append-drop, List·getD-eq-default}
 use lib.Seq.{length-take-le, getD-take, take-set-lt, drop-set-lt}
-use Rattle.range_reader.specs.declared.ExternalsRangeReaderState.{ExternalsRangeReaderState}
-use Rattle.externals_reader.specs.declared.ExternalsReader.{ExternalsReader}
-use Rattle.externals_reader.specs.State.{noRange, heldRanges}
-use Rattle.reader_offsets.specs.Rules.{rangeAt, lastRange, withRanges, withHeld}
+use Rattle.range_rules.specs.declared.ExternalsRangeReaderState.{ExternalsRangeReaderState}
+use Rattle.reader_rules.specs.declared.ExternalsReader.{ExternalsReader}
+use Rattle.reader_rules.specs.State.{noRange, heldRanges}
+use Rattle.reader_rules.specs.Offsets.{rangeAt, lastRange, withRanges, withHeld}
 
 -- ---- the list
 module _ (xs : List ExternalsRangeReaderState) (len : ℕ) (fits : len ≤ length xs) where

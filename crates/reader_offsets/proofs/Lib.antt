@@ -3,4 +3,3 @@ pub mod Records
 pub mod Windows
 pub mod Held
 pub mod Changes
-pub mod Laws

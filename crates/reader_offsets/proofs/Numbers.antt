@@ -11,32 +11,35 @@ use Rattle.rows.proofs.Laws.{pick-yes, pick-no}
 use Rattle.messages_buffer.specs.Fullness.{firstNo}
 use Rattle.anchors_cache.specs.declared.FlagAnswer.{FlagAnswer}
 use Rattle.anchors_cache.specs.Calls.{onZero, flagAnswer}
-use Rattle.range_reader.proofs.Numbers.{first-no, first-yes, first-alone}
+use Rattle.messages_buffer.proofs.Laws.{first-no, first-yes, first-alone}
 use Rattle.externals_reader.specs.Calls.{changed}
-use Rattle.externals_reader.specs.declared.ExternalsReader.{ExternalsReader}
-use Rattle.reader_offsets.specs.declared.ByPartitions.{ByPartitions}
-use Rattle.reader_offsets.specs.Calls.{soundNumber, refusal, partitionsAnswer}
+use Rattle.reader_rules.specs.declared.ExternalsReader.{ExternalsReader}
+use Rattle.reader_rules.specs.declared.ByPartitions.{ByPartitions}
+use Rattle.reader_offsets.specs.Calls.{soundNumber, offsetRefusal, partitionsAnswer}
+
+pub a-refused-call-leaves-the-reader : (number : ℕ) (s after : ExternalsReader) → (number ≡ 0 → ⊥) → changed number s after .reader ≡ s
+a-refused-call-leaves-the-reader number s after h = pick-no _ _ _ (ne-eqb number 0 h)
 
 -- ---- the number
 module _ (s : ExternalsReader) (exists fits : Bool) where
-  number-5 : (n : ℕ) → n ≡ soundNumber s → (n ≡ 0 → ⊥) → refusal s exists fits ≡ n
-  unfolding refusal
+  number-5 : (n : ℕ) → n ≡ soundNumber s → (n ≡ 0 → ⊥) → offsetRefusal s exists fits ≡ n
+  unfolding offsetRefusal
   number-5 n e h = rw (sym e) (first-no n _ h)
 
   module _ (sound : soundNumber s ≡ 0) where
-    number-15 : exists ≡ false → refusal s exists fits ≡ 15
-    unfolding refusal
+    number-15 : exists ≡ false → offsetRefusal s exists fits ≡ 15
+    unfolding offsetRefusal
     number-15 e = first-yes _ _ sound ∙ rw e (first-no 15 _ (λ q. omega arith))
 
     module _ (there : exists ≡ true) where
-      last-question : refusal s exists fits ≡ pick fits 0 16
-      unfolding refusal
+      last-question : offsetRefusal s exists fits ≡ pick fits 0 16
+      unfolding offsetRefusal
       last-question = first-yes _ _ sound ∙ (first-yes _ _ (pick-yes exists 0 15 there) ∙ first-alone (pick fits 0 16))
 
-      number-16 : fits ≡ false → refusal s exists fits ≡ 16
+      number-16 : fits ≡ false → offsetRefusal s exists fits ≡ 16
       number-16 e = last-question ∙ pick-no _ _ _ e
 
-      number-0 : fits ≡ true → refusal s exists fits ≡ 0
+      number-0 : fits ≡ true → offsetRefusal s exists fits ≡ 0
       number-0 e = last-question ∙ pick-yes _ _ _ e
 
 -- ---- the answer
@@ -70,28 +73,28 @@ module _ (number : ℕ) (e : number ≡ 0) where
 
 -- ---- both at once
 module _ (s : ExternalsReader) (exists fits : Bool) (after : ExternalsReader) where
-  pub refused-5 : (n : ℕ) → n ≡ soundNumber s → (n ≡ 0 → ⊥) → record { number = n; reader = s } ≡ changed (refusal s exists fits) s after
+  pub refused-5 : (n : ℕ) → n ≡ soundNumber s → (n ≡ 0 → ⊥) → record { number = n; reader = s } ≡ changed (offsetRefusal s exists fits) s after
   refused-5 n e h = reader-refused n _ (number-5 s exists fits n e h) h s after
 
   module _ (sound : soundNumber s ≡ 0) where
-    pub refused-15 : exists ≡ false → record { number = 15; reader = s } ≡ changed (refusal s exists fits) s after
+    pub refused-15 : exists ≡ false → record { number = 15; reader = s } ≡ changed (offsetRefusal s exists fits) s after
     refused-15 e = reader-refused 15 _ (number-15 s exists fits sound e) (λ q. omega arith) s after
 
-    pub refused-16 : exists ≡ true → fits ≡ false → record { number = 16; reader = s } ≡ changed (refusal s exists fits) s after
+    pub refused-16 : exists ≡ true → fits ≡ false → record { number = 16; reader = s } ≡ changed (offsetRefusal s exists fits) s after
     refused-16 there e = reader-refused 16 _ (number-16 s exists fits sound there e) (λ q. omega arith) s after
 
-    pub done : exists ≡ true → fits ≡ true → (r : ExternalsReader) → r ≡ after → record { number = 0; reader = r } ≡ changed (refusal s exists fits) s after
+    pub done : exists ≡ true → fits ≡ true → (r : ExternalsReader) → r ≡ after → record { number = 0; reader = r } ≡ changed (offsetRefusal s exists fits) s after
     done there e r q = reader-done _ (number-0 s exists fits sound there e) s after r q
 
 module _ (s : ExternalsReader) (exists : Bool) (b : Bool) where
-  pub flag-5 : (n : ℕ) → n ≡ soundNumber s → (n ≡ 0 → ⊥) → record { number = n; flag = false } ≡ flagAnswer (refusal s exists true) b
+  pub flag-5 : (n : ℕ) → n ≡ soundNumber s → (n ≡ 0 → ⊥) → record { number = n; flag = false } ≡ flagAnswer (offsetRefusal s exists true) b
   flag-5 n e h = flag-refused n _ (number-5 s exists true n e h) h b
 
   module _ (sound : soundNumber s ≡ 0) where
-    pub flag-15 : exists ≡ false → record { number = 15; flag = false } ≡ flagAnswer (refusal s exists true) b
+    pub flag-15 : exists ≡ false → record { number = 15; flag = false } ≡ flagAnswer (offsetRefusal s exists true) b
     flag-15 e = flag-refused 15 _ (number-15 s exists true sound e) (λ q. omega arith) b
 
-    pub flag-0 : exists ≡ true → (f : Bool) → f ≡ b → record { number = 0; flag = f } ≡ flagAnswer (refusal s exists true) b
+    pub flag-0 : exists ≡ true → (f : Bool) → f ≡ b → record { number = 0; flag = f } ≡ flagAnswer (offsetRefusal s exists true) b
     flag-0 there f q = flag-done _ (number-0 s exists true sound there refl) b f q
 
 -- two questions asked one after the other

@@ -9,10 +9,10 @@ use Rattle.rows.specs.Rows.{pick}
 use Rattle.rows.proofs.Laws.{pick-yes, pick-no}
 use Rattle.ext_types.specs.Keys.{keyEqual}
 use Rattle.messages_buffer.specs.declared.ExternalsPartitionRangeReaderState.{ExternalsPartitionRangeReaderState}
-use Rattle.range_reader.specs.declared.ExternalsRangeReaderState.{ExternalsRangeReaderState}
-use Rattle.externals_reader.specs.declared.ExternalsPartitionReaderState.{ExternalsPartitionReaderState}
-use Rattle.reader_offsets.specs.declared.Tally.{Tally}
-use Rattle.reader_offsets.specs.Rules.{collected, tallied, withOffsets, dropped, skipRaised, raised, marked}
+use Rattle.range_rules.specs.declared.ExternalsRangeReaderState.{ExternalsRangeReaderState}
+use Rattle.reader_rules.specs.declared.ExternalsPartitionReaderState.{ExternalsPartitionReaderState}
+use Rattle.reader_rules.specs.declared.Tally.{Tally}
+use Rattle.reader_rules.specs.Offsets.{collected, tallied, withOffsets, dropped, skipRaised, offsetRaised, marked}
 
 and-no : (b : Bool) → (b && false) ≡ false
 and-no true = refl
@@ -33,13 +33,13 @@ module _ (x : ExternalsPartitionRangeReaderState) where
     offset-set h = sym (pick-no _ _ _ (lt-leb offset (x .«processed_offset») h))
 
   module _ (p : ExternalsPartitionReaderState) (greatest : ℕ) where
-    pub absent-stays : p .present ≡ false → x ≡ raised p greatest x
+    pub absent-stays : p .present ≡ false → x ≡ offsetRaised p greatest x
     absent-stays e = sym (pick-no _ _ _ (ap (λ (b : Bool). b && ltb greatest (p .«curr_processed_offset»)) e))
 
-    pub not-above-stays : p .«curr_processed_offset» ≤ greatest → x ≡ raised p greatest x
+    pub not-above-stays : p .«curr_processed_offset» ≤ greatest → x ≡ offsetRaised p greatest x
     not-above-stays h = sym (pick-no _ _ _ (ap (λ (b : Bool). p .present && b) (le-ltb greatest (p .«curr_processed_offset») h) ∙ and-no (p .present)))
 
-    pub above-raises : p .present ≡ true → greatest < p .«curr_processed_offset» → withOffsets (x .«skip_offset») (p .«curr_processed_offset») x ≡ raised p greatest x
+    pub above-raises : p .present ≡ true → greatest < p .«curr_processed_offset» → withOffsets (x .«skip_offset») (p .«curr_processed_offset») x ≡ offsetRaised p greatest x
     above-raises e h = sym (pick-yes _ _ _ (ap (λ (b : Bool). b && ltb greatest (p .«curr_processed_offset»)) e ∙ lt-ltb greatest (p .«curr_processed_offset») h))
 
   module _ (t : Tally) where

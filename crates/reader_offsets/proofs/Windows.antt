@@ -11,10 +11,10 @@ use borrow.Author.Tests.{eqb-true, eqb-false}
 use Rattle.rows.specs.Rows.{pick, part}
 use Rattle.rows.proofs.Laws.{part-cons, pick-yes, pick-no}
 use Rattle.messages_buffer.specs.Fullness.{every}
-use Rattle.range_reader.specs.declared.ExternalsRangeReaderState.{ExternalsRangeReaderState}
-use Rattle.externals_reader.specs.State.{noRange}
-use Rattle.reader_offsets.specs.declared.Tally.{Tally}
-use Rattle.reader_offsets.specs.Rules.{allBelow, recordOf, tallied, tallyFrom, placeOf}
+use Rattle.range_rules.specs.declared.ExternalsRangeReaderState.{ExternalsRangeReaderState}
+use Rattle.reader_rules.specs.State.{noRange}
+use Rattle.reader_rules.specs.declared.Tally.{Tally}
+use Rattle.reader_rules.specs.Offsets.{allBelow, recordOf, tallied, tallyFrom, placeOf}
 
 -- ---- 0, 1, .. below n
 pub below-none : (f : ℕ → Bool) → allBelow 0 f ≡ true

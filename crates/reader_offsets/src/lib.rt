@@ -1,41 +1,19 @@
 // Offsets of an externals reader, and the questions about its buffers and ranges.
 // A refused call answers the number and leaves the reader as at entry.
 ghost use mathlib.Core.Path.{_≡_};
-ghost use Rattle.reader_offsets.specs.Calls.{finalizeCall, limitReachedCall, nonZeroOffsetCall, offsetReachedCall, offsetsReachedCall, countCall, hasMessagesCall, notFullyReadCall, readAndCollectedCall, checkReadAndCollectedCall, allCollectedCall, pendingCall, lastOffsetsCall, retainCall, setFromCall, incrementCall, dropCall, setSkipCall, setProcessedCall, takenCall};
+ghost use Rattle.reader_offsets.specs.Calls.{finalizeCall, limitReachedCall, nonZeroOffsetCall, offsetReachedCall, offsetsReachedCall, countCall, hasMessagesCall, notFullyReadCall, readAndCollectedCall, checkReadAndCollectedCall, allCollectedCall, pendingExternalsCall, lastOffsetsCall, retainCall, setFromCall, incrementCall, dropCall, setSkipCall, setProcessedCall, takenCall};
 use anchors_cache::AnchorsCacheTransaction;
 use anchors_cache::FlagAnswer;
-use externals_reader::ExternalsReader;
 use externals_reader::ReaderDone;
+use reader_rules::ByPartitions;
+use reader_rules::ExternalsReader;
+use reader_rules::PartitionTest;
 
 mod partitions;
 mod ranges;
 
-// A number for each partition that is present, and 0 for the others.
-#[repr(C)]
-pub struct ByPartitions {
-    pub number: u8,
-    pub values: [u32; 8],
-    pub present: [bool; 8],
-}
-
-// What is asked of a partition, by its record in the reader and its record in a range.
-pub enum PartitionTest {
-    InRange,
-    InReader,
-    Unprocessed,
-    Empty,
-    Reached,
-    Collected,
-}
-
-// What ranges together hold of a partition: whether any has it, the messages in their buffers, and the greatest processed offset.
-pub struct Tally {
-    pub present: bool,
-    pub count: u64,
-    pub processed: u32,
-}
-
-// The last range takes over each current offset that is above every processed one, and ranges at their end are fully read.
+// The last range takes over each current offset that is above every processed one, and ranges at their end are fully
+// read.
 pub fn finalize(reader: ExternalsReader) -> ReaderDone
     ensures { λ r. ⌜ r ≡ finalizeCall reader ⌝ }
 {
@@ -141,7 +119,7 @@ pub fn last_range_offset_reached(reader: ExternalsReader, par_id: u8) -> FlagAns
             flag: true,
         };
     }
-    let at = ranges::last_at(state.len);
+    let at = rows::last_place(state.len);
     let x = ranges::record_of(state, at, par_id);
     FlagAnswer {
         number: 0,
@@ -163,7 +141,7 @@ pub fn last_range_offsets_reached_in_all_partitions(reader: ExternalsReader) -> 
     let partitions = state.by_partitions;
     let table = state.ranges;
     let len = state.len;
-    let at = ranges::last_at(len);
+    let at = rows::last_place(len);
     if !ranges::every_range(PartitionTest::InReader, partitions, table, at, len - at) {
         return FlagAnswer {
             number: 15,
@@ -304,7 +282,7 @@ pub fn has_pending_externals(
     t: AnchorsCacheTransaction,
     reader: ExternalsReader,
 ) -> FlagAnswer
-    ensures { λ r. ⌜ r ≡ pendingCall (now (tables .entry)) t reader ⌝ }
+    ensures { λ r. ⌜ r ≡ pendingExternalsCall (now (tables .entry)) t reader ⌝ }
 {
     let state = reader.reader_state;
     let of_state = externals_reader::check_state(state);
@@ -331,7 +309,7 @@ pub fn get_last_range_state_offsets_by_partitions(reader: ExternalsReader) -> By
     }
     let table = state.ranges;
     let len = state.len;
-    let at = ranges::last_at(len);
+    let at = rows::last_place(len);
     ranges::by_partitions(table, at, len - at, true)
 }
 
@@ -452,7 +430,7 @@ pub fn drop_processing_offset(
             reader: reader,
         };
     }
-    let at = ranges::last_at(state.len);
+    let at = rows::last_place(state.len);
     let x = ranges::record_of(state, at, par_id);
     if !x.present {
         return ReaderDone {
@@ -489,7 +467,7 @@ pub fn set_skip_processed_offset_to_current(reader: ExternalsReader, par_id: u8)
             reader: reader,
         };
     }
-    let at = ranges::last_at(state.len);
+    let at = rows::last_place(state.len);
     let x = ranges::record_of(state, at, par_id);
     if !x.present {
         return ReaderDone {

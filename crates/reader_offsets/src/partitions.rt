@@ -1,27 +1,23 @@
 // One partition: its record in the reader, and its record in a range.
 ghost use mathlib.Core.Path.{_≡_};
 ghost use mathlib.Core.Bool.{not, _||_};
-ghost use Rattle.reader_offsets.specs.Rules.{partitionOf, recordAt, collected, meets, partitionsMeet, dropped, skipRaised, raised, withRecord, withPartition};
-use crate::PartitionTest;
-use externals_reader::ExternalsPartitionReaderState;
-use externals_reader::ExternalsReader;
+ghost use Rattle.reader_rules.specs.Offsets.{readerPartition, recordAt, collected, meets, partitionsMeet, dropped, skipRaised, offsetRaised, withRecord, withPartition};
 use messages_buffer::ExternalsPartitionRangeReaderState;
-use range_reader::ExternalsRangeReaderState;
+use range_rules::ExternalsRangeReaderState;
+use reader_rules::ExternalsPartitionReaderState;
+use reader_rules::ExternalsReader;
+use reader_rules::PartitionTest;
 
 // The reader's record of a partition; one above 7 is absent.
 pub(crate) fn partition_at(
     partitions: [ExternalsPartitionReaderState; 8],
     par_id: u8,
 ) -> ExternalsPartitionReaderState
-    ensures { λ r. ⌜ r ≡ partitionOf «par_id» partitions ⌝ }
+    ensures { λ r. ⌜ r ≡ readerPartition «par_id» partitions ⌝ }
 {
     if 7 < par_id {
-        let start = ext_types::ExternalKey {
-            anchor_id: 0,
-            msgs_offset: 0,
-        };
         return ExternalsPartitionReaderState {
-            processed_to: start,
+            processed_to: ext_types::NO_KEY,
             curr_processed_offset: 0,
             present: false,
         };
@@ -195,7 +191,7 @@ pub(crate) fn raised(
     partition: ExternalsPartitionReaderState,
     greatest: u32,
 ) -> ExternalsPartitionRangeReaderState
-    ensures { λ r. ⌜ r ≡ raised partition greatest held ⌝ }
+    ensures { λ r. ⌜ r ≡ offsetRaised partition greatest held ⌝ }
 {
     if !partition.present {
         return held;

@@ -4,27 +4,28 @@ ghost use mathlib.Core.Path.{_≡_};
 ghost use mathlib.Core.List.{map, _++_};
 ghost use lib.ListN.{take, drop, set};
 ghost use Rattle.rows.specs.Rows.{part};
-ghost use Rattle.externals_reader.specs.State.{heldRanges};
-ghost use Rattle.reader_offsets.specs.Rules.{rangesMeet, allFullyRead, tallied, tallyOf, shown, shownBy, marked, raisedRange, placeOf, withRanges, withHeld, recordOf, rangeAt, lastRange, withRecord, onPlace};
-use crate::ByPartitions;
-use crate::PartitionTest;
-use crate::Tally;
+ghost use Rattle.reader_rules.specs.State.{heldRanges, maxRanges};
+ghost use Rattle.reader_rules.specs.Offsets.{rangesMeet, allFullyRead, tallied, tallyOf, shown, shownBy, marked, raisedRange, placeOf, withRanges, withHeld, recordOf, rangeAt, lastRange, withRecord, onPlace};
 use crate::partitions;
-use externals_reader::ExternalsPartitionReaderState;
-use externals_reader::ExternalsReader;
-use externals_reader::ExternalsReaderState;
 use messages_buffer::ExternalsPartitionRangeReaderState;
-use range_reader::ExternalsRangeReaderState;
+use range_rules::ExternalsRangeReaderState;
+use reader_rules::ByPartitions;
+use reader_rules::ExternalsPartitionReaderState;
+use reader_rules::ExternalsReader;
+use reader_rules::ExternalsReaderState;
+use reader_rules::MAX_RANGES;
+use reader_rules::PartitionTest;
+use reader_rules::Tally;
 
 // Whether each of `n` ranges from `first` on meets the test in each partition.
 pub(crate) fn every_range(
     test: PartitionTest,
     partitions: [ExternalsPartitionReaderState; 8],
-    ranges: [ExternalsRangeReaderState; 16],
+    ranges: [ExternalsRangeReaderState; MAX_RANGES],
     first: usize,
     n: usize,
 ) -> bool
-    requires { ⌜ first + n ≤ 16 ⌝ }
+    requires { ⌜ first + n ≤ maxRanges ⌝ }
     ensures { λ r. ⌜ r ≡ rangesMeet test partitions (part first n ranges) ⌝ }
 {
     let mut at = first;
@@ -41,8 +42,8 @@ pub(crate) fn every_range(
     true
 }
 
-pub(crate) fn all_fully_read(ranges: [ExternalsRangeReaderState; 16], len: usize) -> bool
-    requires { ⌜ len ≤ 16 ⌝ }
+pub(crate) fn all_fully_read(ranges: [ExternalsRangeReaderState; MAX_RANGES], len: usize) -> bool
+    requires { ⌜ len ≤ maxRanges ⌝ }
     ensures { λ r. ⌜ r ≡ allFullyRead (take len ranges) ⌝ }
 {
     let mut at = 0;
@@ -58,18 +59,8 @@ pub(crate) fn all_fully_read(ranges: [ExternalsRangeReaderState; 16], len: usize
     true
 }
 
-// The last place of `len`; of none, 0.
-pub(crate) fn last_at(len: usize) -> usize
-    ensures { λ r. ⌜ r ≡ len - 1 ⌝ }
-{
-    if len == 0 {
-        return 0;
-    }
-    len - 1
-}
-
 pub(crate) fn last_range(state: ExternalsReaderState) -> ExternalsRangeReaderState
-    requires { ⌜ (0 < state .len) × (state .len ≤ 16) ⌝ }
+    requires { ⌜ (0 < state .len) × (state .len ≤ maxRanges) ⌝ }
     ensures { λ r. ⌜ r ≡ lastRange (heldRanges state) ⌝ }
 {
     let at = state.len - 1;
@@ -83,7 +74,7 @@ pub(crate) fn record_of(
     at: usize,
     par_id: u8,
 ) -> ExternalsPartitionRangeReaderState
-    requires { ⌜ state .len ≤ 16 ⌝ }
+    requires { ⌜ state .len ≤ maxRanges ⌝ }
     ensures { λ r. ⌜ r ≡ recordOf «par_id» (rangeAt at (heldRanges state)) ⌝ }
 {
     if state.len <= at {
@@ -119,8 +110,13 @@ fn tallied(t: Tally, held: ExternalsPartitionRangeReaderState) -> Tally
 }
 
 // What `n` ranges from `first` on hold of a partition together.
-fn tally(ranges: [ExternalsRangeReaderState; 16], first: usize, n: usize, par: usize) -> Tally
-    requires { ⌜ (first + n ≤ 16) × (par < 8) ⌝ }
+fn tally(
+    ranges: [ExternalsRangeReaderState; MAX_RANGES],
+    first: usize,
+    n: usize,
+    par: usize,
+) -> Tally
+    requires { ⌜ (first + n ≤ maxRanges) × (par < 8) ⌝ }
     ensures { λ r. ⌜ r ≡ tallyOf par (part first n ranges) ⌝ }
 {
     let mut t = Tally {
@@ -154,12 +150,12 @@ fn shown(t: Tally, offsets: bool) -> u32
 
 // What `n` ranges from `first` on hold, by partitions.
 pub(crate) fn by_partitions(
-    ranges: [ExternalsRangeReaderState; 16],
+    ranges: [ExternalsRangeReaderState; MAX_RANGES],
     first: usize,
     n: usize,
     offsets: bool,
 ) -> ByPartitions
-    requires { ⌜ (first + n ≤ 16) × ((par : ℕ) → tallyOf par (part first n ranges) .count < 4294967296) ⌝ }
+    requires { ⌜ (first + n ≤ maxRanges) × ((par : ℕ) → tallyOf par (part first n ranges) .count < 4294967296) ⌝ }
     ensures { λ r. ⌜ r ≡ shownBy offsets (part first n ranges) ⌝ }
 {
     let mut values = [0u32; 8];
@@ -193,10 +189,10 @@ fn marked(range: ExternalsRangeReaderState) -> ExternalsRangeReaderState
 }
 
 pub(crate) fn marked_ranges(
-    ranges: [ExternalsRangeReaderState; 16],
+    ranges: [ExternalsRangeReaderState; MAX_RANGES],
     len: usize,
-) -> [ExternalsRangeReaderState; 16]
-    requires { ⌜ len ≤ 16 ⌝ }
+) -> [ExternalsRangeReaderState; MAX_RANGES]
+    requires { ⌜ len ≤ maxRanges ⌝ }
     ensures { λ r. ⌜ r ≡ map marked (take len ranges) ++ drop len ranges ⌝ }
 {
     let mut table = ranges;
@@ -213,10 +209,10 @@ pub(crate) fn marked_ranges(
 pub(crate) fn raised_range(
     last: ExternalsRangeReaderState,
     partitions: [ExternalsPartitionReaderState; 8],
-    ranges: [ExternalsRangeReaderState; 16],
+    ranges: [ExternalsRangeReaderState; MAX_RANGES],
     len: usize,
 ) -> ExternalsRangeReaderState
-    requires { ⌜ len ≤ 16 ⌝ }
+    requires { ⌜ len ≤ maxRanges ⌝ }
     ensures { λ r. ⌜ r ≡ raisedRange partitions (take len ranges) last ⌝ }
 {
     let records = last.by_partitions;
@@ -235,8 +231,12 @@ pub(crate) fn raised_range(
 }
 
 // The place of the range with this seqno; `len` if there is none.
-pub(crate) fn place_of(ranges: [ExternalsRangeReaderState; 16], len: usize, seqno: u32) -> usize
-    requires { ⌜ len ≤ 16 ⌝ }
+pub(crate) fn place_of(
+    ranges: [ExternalsRangeReaderState; MAX_RANGES],
+    len: usize,
+    seqno: u32,
+) -> usize
+    requires { ⌜ len ≤ maxRanges ⌝ }
     ensures { λ r. ⌜ r ≡ placeOf seqno (take len ranges) ⌝ }
 {
     let mut at = 0;
@@ -254,7 +254,7 @@ pub(crate) fn place_of(ranges: [ExternalsRangeReaderState; 16], len: usize, seqn
 
 pub(crate) fn with_ranges(
     reader: ExternalsReader,
-    ranges: [ExternalsRangeReaderState; 16],
+    ranges: [ExternalsRangeReaderState; MAX_RANGES],
     len: usize,
 ) -> ExternalsReader
     ensures { λ r. ⌜ r ≡ withRanges ranges len reader ⌝ }
@@ -272,7 +272,7 @@ pub(crate) fn with_range(
     at: usize,
     range: ExternalsRangeReaderState,
 ) -> ExternalsReader
-    requires { ⌜ (at < reader .«reader_state» .len) × (reader .«reader_state» .len ≤ 16) ⌝ }
+    requires { ⌜ (at < reader .«reader_state» .len) × (reader .«reader_state» .len ≤ maxRanges) ⌝ }
     ensures { λ r. ⌜ r ≡ withHeld (set (heldRanges (reader .«reader_state»)) at range) reader ⌝ }
 {
     let state = reader.reader_state;
@@ -288,7 +288,7 @@ pub(crate) fn with_record_of(
     par_id: u8,
     held: ExternalsPartitionRangeReaderState,
 ) -> ExternalsReader
-    requires { ⌜ (at < reader .«reader_state» .len) × (reader .«reader_state» .len ≤ 16) ⌝ }
+    requires { ⌜ (at < reader .«reader_state» .len) × (reader .«reader_state» .len ≤ maxRanges) ⌝ }
     ensures { λ r. ⌜ r ≡ withHeld (onPlace at (withRecord «par_id» held) (heldRanges (reader .«reader_state»))) reader ⌝ }
 {
     let state = reader.reader_state;

@@ -1,27 +1,31 @@
--- Records of a session (document 01, "Session program"): question 17, and the fields of a payload, little-endian. Fields past its end are 0.
+-- Records of a session (document 01, "Session program"): question 17, and the fields of a payload, little-endian.
+-- Fields past its end are 0.
 use Prim.Native.Nat.{ℕ, _+_, _-_, _*_}
-use mathlib.Core.Bool.{Bool, true, false, not, _&&_}
+use mathlib.Core.Bool.{Bool, false, not, _&&_}
 use mathlib.Core.List.{List, [], _∷_, map}
 use lib.Dec.{ltb, leb, eqb}
 use lib.IntN.{ℤ, pos, negsuc}
 use lib.ListN.{length, drop, getD, replicate}
 use Rattle.rows.specs.Rows.{pick, part, numAt}
-use Rattle.ext_types.specs.declared.ChainTime.{ChainTime}
-use Rattle.ext_types.specs.declared.Seconds.{Seconds}
 use Rattle.shard_ident.specs.declared.ShardIdent.{ShardIdent}
 use Rattle.anchors_cache.specs.declared.MempoolAnchor.{MempoolAnchor}
-use Rattle.anchors_cache.specs.Rules.{ask}
-use Rattle.externals_reader.specs.declared.MsgsExecutionParams.{MsgsExecutionParams}
+use Rattle.cache_rules.specs.Rules.{ask, maxAnchorMessages, authorBytes}
+use Rattle.reader_rules.specs.declared.MsgsExecutionParams.{MsgsExecutionParams}
 use Rattle.records.specs.declared.Next.{Next}
 use Rattle.records.specs.declared.Next.the-variants.{Whole, Long, Part}
 
+-- the longest record that can be taken: kind 2, an anchor's 50 bytes, then its messages
+abbrev pub longestRecord : ℕ
+longestRecord = 52 + 33 * maxAnchorMessages
+
 -- ---- framing: length 4, counting kind and payload
--- a record longer than 16,948 bytes, an anchor's with 512 messages, is judged by its first 52; input that ends before a record's end has only a part of it
+-- a record longer than 16,948 bytes, an anchor's with 512 messages, is judged by its first 52; input that ends before a
+-- record's end has only a part of it
 unfoldable pub nextRecord : List ℕ → ℕ → ℕ → Next
 nextRecord input from end =
     let n = numAt 4 from input in
     pick (ltb (end - from) 4) Part
-    (pick (ltb 16948 n) (pick (ltb (end - from) 56) Part (Long n)) (pick (ltb (end - from - 4) n) Part (Whole (from + 4) n)))
+    (pick (ltb longestRecord n) (pick (ltb (end - from) 56) Part (Long n)) (pick (ltb (end - from - 4) n) Part (Whole (from + 4) n)))
 
 -- ---- question 17
 -- one 0001, then one 0003, then the others; the number is counted from 1
@@ -69,7 +73,7 @@ paramsOf p = record { «externals_expire_timeout» = record { 0 = numAt 4 8 p };
 
 -- 0004: id 4, chain time 8, author 32, ours 4, count 2, then 33 bytes a message
 unfoldable pub authorOf : List ℕ → List ℕ
-authorOf p = pick (leb 44 (length p)) (part 12 32 p) (replicate 32 0)
+authorOf p = pick (leb 44 (length p)) (part 12 authorBytes p) (replicate authorBytes 0)
 
-unfoldable pub anchorOf : List ℕ → MempoolAnchor
-anchorOf p = record { id = numAt 4 0 p; «chain_time» = record { 0 = numAt 8 4 p }; author = authorOf p }
+unfoldable pub anchorIn : List ℕ → MempoolAnchor
+anchorIn p = record { id = numAt 4 0 p; «chain_time» = record { 0 = numAt 8 4 p }; author = authorOf p }

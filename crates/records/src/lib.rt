@@ -1,14 +1,16 @@
 // Records of a session: a kind and a payload. Question 17, and the fields of a payload; those past its end are 0.
 ghost use mathlib.Core.Path.{_≡_};
-ghost use Prim.Native.Nat.{_+_, _*_, _<_, _≤_};
+ghost use Prim.Native.Nat.{_+_, _*_, _<_};
 ghost use lib.Dec.{eqb};
 ghost use lib.ListN.{length};
 ghost use Rattle.rows.specs.Rows.{numAt};
-ghost use Rattle.records.specs.Records.{nextRecord, inPlace, byteWithin, asStated, recordNumber, signedOf, shardOf, limitsOf, limitsIn, paramsOf, authorOf, anchorOf};
+ghost use Rattle.records.specs.Records.{nextRecord, inPlace, byteWithin, asStated, recordNumber, signedOf, shardOf, limitsOf, limitsIn, paramsOf, authorOf, anchorIn};
 use anchors_cache::MempoolAnchor;
+use cache_rules::AUTHOR_BYTES;
+use cache_rules::MAX_ANCHOR_MESSAGES;
 use ext_types::ChainTime;
 use ext_types::Seconds;
-use externals_reader::MsgsExecutionParams;
+use reader_rules::MsgsExecutionParams;
 use shard_ident::ShardIdent;
 
 pub const SHARD: u16 = 1;
@@ -21,8 +23,8 @@ pub const ANCHOR: u16 = 4;
 
 pub const DO: u16 = 5;
 
-// The most bytes of a record that can be taken: kind 2, then an anchor with 512 messages.
-pub const LONGEST: usize = 16948;
+// The most bytes of a record that can be taken: kind 2, an anchor's 50, then its messages.
+pub const LONGEST: usize = 52 + 33 * MAX_ANCHOR_MESSAGES;
 
 // The next record, as far as it is at hand.
 pub enum Next {
@@ -189,10 +191,10 @@ pub fn params_of(p: &[u8]) -> MsgsExecutionParams
     }
 }
 
-fn author_of(p: &[u8]) -> [u8; 32]
+fn author_of(p: &[u8]) -> [u8; AUTHOR_BYTES]
     ensures { λ r. ⌜ r ≡ authorOf (now (p .entry)) ⌝ }
 {
-    let mut author = [0u8; 32];
+    let mut author = [0u8; AUTHOR_BYTES];
     if 44 <= p.len() {
         rows::copy_in(&mut author, 0, &p[12..44]);
     }
@@ -201,7 +203,7 @@ fn author_of(p: &[u8]) -> [u8; 32]
 
 // Id 4, chain time 8, author 32.
 pub fn anchor_of(p: &[u8]) -> MempoolAnchor
-    ensures { λ r. ⌜ r ≡ anchorOf (now (p .entry)) ⌝ }
+    ensures { λ r. ⌜ r ≡ anchorIn (now (p .entry)) ⌝ }
 {
     let author = author_of(p);
     let time = ChainTime(rows::u64_at(p, 4));

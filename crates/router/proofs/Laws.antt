@@ -14,7 +14,7 @@ use Rattle.rows.specs.Rows.{pick, part, rows, sameBytes, wholeRows, later, find
 use Rattle.rows.specs.declared.Found.{Found}
 use Rattle.rows.specs.declared.Found.the-variants.{At, Nothing}
 use Rattle.rows.proofs.Laws.{and-true, same-refl, same-true, same-length, rows-cons, rows-at, rows-wide, rows-length, found-at}
-use Rattle.router.specs.Router.{routeRows, addressOf, routePartition, listed, noneTwice, partitionsExist, soundRoutes, routesNumber, firstPartition, partitionOf, partitionAt, answerOf, unlessRefused, getPartition}
+use Rattle.router.specs.Router.{routeRows, addressOf, routePartition, listed, noneTwice, partitionsExist, soundRoutes, routesNumber, firstPartition, partitionOf, partitionAt, answerOf, unlessRefused, getPartition, maxRoutes}
 use Rattle.router.specs.declared.Routed.the-variants.{Refused, Partition}
 
 -- ---- a message's row
@@ -136,15 +136,15 @@ number-0-or-3 routes = go (eqb (length routes % 34) 0 && soundRoutes (routeRows 
     go false = inr refl
 
 pub record Sound (l : List (List ℕ)) : Type 0 where
-  pub few : length l ≤ 256
+  pub few : length l ≤ maxRoutes
   pub distinct : noneTwice l ≡ true
   pub exist : partitionsExist l ≡ true
 
 pub sound-routes : (routes : List ℕ) → routesNumber routes ≡ 0 → Sound (routeRows routes)
 unfolding routesNumber soundRoutes
-sound-routes routes e = go (eqb (length routes % 34) 0) (leb (length (routeRows routes)) 256) refl (noneTwice (routeRows routes)) refl (partitionsExist (routeRows routes)) refl e
+sound-routes routes e = go (eqb (length routes % 34) 0) (leb (length (routeRows routes)) maxRoutes) refl (noneTwice (routeRows routes)) refl (partitionsExist (routeRows routes)) refl e
   where
-    go : (a b : Bool) → leb (length (routeRows routes)) 256 ≡ b → (c : Bool) → noneTwice (routeRows routes) ≡ c → (d : Bool) → partitionsExist (routeRows routes) ≡ d → pick {A = ℕ} (a && (b && (c && d))) 0 3 ≡ 0 → Sound (routeRows routes)
+    go : (a b : Bool) → leb (length (routeRows routes)) maxRoutes ≡ b → (c : Bool) → noneTwice (routeRows routes) ≡ c → (d : Bool) → partitionsExist (routeRows routes) ≡ d → pick {A = ℕ} (a && (b && (c && d))) 0 3 ≡ 0 → Sound (routeRows routes)
     go true true p true q true r e = record { few = leb-true _ _ p; distinct = q; exist = r }
     go true true p true q false r e = absurd (omega arith)
     go true true p false q d r e = absurd (omega arith)

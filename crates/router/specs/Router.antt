@@ -22,6 +22,10 @@ abbrev pub routePartition : List ℕ → ℕ
 routePartition route = getD route 33 0
 
 -- ---- question 3
+-- Document 01, caps: "256 routes"
+abbrev pub maxRoutes : ℕ
+maxRoutes = 256
+
 -- whether a route has this (workchain, account)
 unfoldable pub listed : List ℕ → List (List ℕ) → Bool
 listed address [] = false
@@ -39,7 +43,7 @@ partitionsExist (r ∷ l) = leb (routePartition r) 7 && partitionsExist l
 
 -- question 3 of the routes
 unfoldable pub soundRoutes : List (List ℕ) → Bool
-soundRoutes l = leb (length l) 256 && (noneTwice l && partitionsExist l)
+soundRoutes l = leb (length l) maxRoutes && (noneTwice l && partitionsExist l)
 
 -- question 3's number; bytes that are no whole number of routes are refused by it too
 unfoldable pub routesNumber : List ℕ → ℕ

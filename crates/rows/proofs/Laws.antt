@@ -3,7 +3,7 @@ use Prim.Native.Nat.{ℕ, zero, suc, _+_, _-_, _*_, _/_, _%_, _^_, _≤_, _<_}
 use mathlib.Core.Path.{_≡_, refl, sym, ap, _∙_}
 use mathlib.Core.List.{List, [], _∷_, _++_, append-assoc, append-nil, List·Memᴰ, List·Memᴰ·cases-cons, List·Memᴰ·not-nil}
 use mathlib.Core.Logic.{⊎-elim}
-use mathlib.Core.Bool.{Bool, true, false, not, _&&_}
+use mathlib.Core.Bool.{Bool, true, false, not, _&&_, _||_}
 use lib.Dec.{leb, eqb}
 use borrow.Author.Tests.{not-true, not-false, leb-true, leb-false, le-leb, lt-leb, eqb-true, eq-eqb}
 use native.Mathlib.Omega.{arith}
@@ -301,6 +301,30 @@ rows-back w (suc (suc m)) l p =
     rw (e, mul-more w m) (ap (λ (k : List (List ℕ)). take w l ∷ k) h)
 
 -- ---- tests
+pub or-here : (a b : Bool) → a ≡ true → (a || b) ≡ true
+or-here a b h = rw h
+
+pub no-here : (a b : Bool) → a ≡ false → false ≡ (a && b)
+no-here a b h = rw h
+
+pub no-later : (a b : Bool) → b ≡ false → false ≡ (a && b)
+no-later true b h = sym h
+no-later false b h = refl
+
+pub yes-here : (a b x : Bool) → a ≡ true → x ≡ b → x ≡ (a && b)
+yes-here a b x h e = e ∙ rw h
+
+pub yes-later : (a b : Bool) → b ≡ true → a ≡ (a && b)
+yes-later true b h = sym h
+yes-later false b h = refl
+
+pub or-later : (a b : Bool) → b ≡ true → (a || b) ≡ true
+or-later true b h = refl
+or-later false b h = h
+
+pub or-none : (a b : Bool) → a ≡ false → b ≡ false → (a || b) ≡ false
+or-none a b h k = rw (h, k)
+
 pub pick-yes : {A : Type 0} (b : Bool) (x y : A) → b ≡ true → pick b x y ≡ x
 pick-yes true x y e = refl
 pick-yes false x y e = absurd (let z : _≡_ {A = ℕ} 0 1 = cc in omega arith)
@@ -308,6 +332,17 @@ pick-yes false x y e = absurd (let z : _≡_ {A = ℕ} 0 1 = cc in omega arith)
 pub pick-no : {A : Type 0} (b : Bool) (x y : A) → b ≡ false → pick b x y ≡ y
 pick-no true x y e = absurd (let z : _≡_ {A = ℕ} 0 1 = cc in omega arith)
 pick-no false x y e = refl
+
+pub pick-same : {A : Type 0} (b : Bool) (x : A) → pick b x x ≡ x
+pick-same true x = refl
+pick-same false x = refl
+
+pub pick-both : {A : Type 0} (P : A → Type 0) (b : Bool) (x y : A) → P x → P y → P (pick b x y)
+pick-both P true x y p q = p
+pick-both P false x y p q = q
+
+pub never : {A : Type 0} → true ≡ false → A
+never e = absurd (let z : _≡_ {A = ℕ} 0 1 = cc in omega arith)
 
 pub and-true : (a b : Bool) → (a && b) ≡ true → (a ≡ true) × (b ≡ true)
 and-true true b e = (refl, e)

@@ -1,13 +1,14 @@
 // Lent bytes as a table: numbers of two, four and eight bytes, the lowest first, moves of parts, and rows of one width.
 // Every public function is total: what would be read past the end is 0, what would be written past it is not written.
 ghost use mathlib.Core.Path.{_≡_};
-ghost use Prim.Native.Nat.{_+_, _*_, _<_, _≤_, _^_};
+ghost use Prim.Native.Nat.{_+_, _*_, _<_, _≤_, _-_};
 ghost use lib.Dec.{leb};
 ghost use lib.ListN.{length, getD};
 ghost use lib.Seq.{sets};
 ghost use Rattle.rows.specs.Rows.{part, le, word, stays, appended, numAt, written, movedDown, fits, appendAnswer, appendedIfFits, startsWith, wholeRows, findRow};
 
-// Where the new bytes stand: behind the old ones; behind them after they went down to the table's start; nowhere, and nothing was written.
+// Where the new bytes stand: behind the old ones; behind them after they went down to the table's start; nowhere, and
+// nothing was written.
 pub enum Appended {
     Behind,
     Moved,
@@ -28,6 +29,16 @@ pub fn sum_within(a: usize, b: usize, cap: usize) -> bool
         return false;
     }
     a <= cap - b
+}
+
+// The last place of n; of none, 0.
+pub fn last_place(n: usize) -> usize
+    ensures { λ r. ⌜ r ≡ n - 1 ⌝ }
+{
+    if n == 0 {
+        return 0;
+    }
+    n - 1
 }
 
 pub fn byte_at(s: &[u8], at: usize) -> u8
@@ -186,7 +197,8 @@ fn has_room(start: usize, from: usize, n: usize, k: usize, cap: usize, len: usiz
     sum_within(n, k, cap)
 }
 
-// New bytes behind the n that stand at `from` in a table of cap bytes from start. Where there is no room behind them, they go down to its start first.
+// New bytes behind the n that stand at `from` in a table of cap bytes from start. Where there is no room behind them,
+// they go down to its start first.
 pub fn append(s: &mut [u8], start: usize, from: usize, n: usize, cap: usize, new: &[u8]) -> Appended
     ensures { λ r. ⌜ (r ≡ appendAnswer start from n (length (now (new .entry))) cap (length (now (s .entry)))) × (now (s .exit) ≡ appendedIfFits start from n cap (now (new .entry)) (now (s .entry))) ⌝ }
 {

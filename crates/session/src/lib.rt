@@ -1,10 +1,9 @@
 // A session's step (document 01, "Session program"): one record, the text that it gives, and the state that it leaves.
-// The tables, the message area, the routes, the output entries and the text are lent; the session and its reader go by value.
+// The tables, the message area, the routes, the output entries and the text are lent; session and reader go by value.
 ghost use mathlib.Core.Path.{_≡_};
-ghost use Rattle.session_cache.specs.Said.{told};
-ghost use Rattle.session.specs.Steps.{noReader, reachesReader, stepOf};
-use externals_reader::ExternalsReader;
-use session_cache::Session;
+ghost use Rattle.session_rules.specs.Steps.{noReader, reachesReader, whole, wholeAfter};
+use reader_rules::ExternalsReader;
+use session_rules::Session;
 
 mod reading;
 
@@ -27,7 +26,7 @@ fn reaches(kind: u16, d: u8) -> bool
     match kind {
         records::SHARD => true,
         records::SETTINGS => true,
-        records::DO => session_cache::is_read(d),
+        records::DO => session_state::is_read(d),
         _ => false,
     }
 }
@@ -43,15 +42,16 @@ pub fn step(
     reader: ExternalsReader,
     record: &[u8],
 ) -> Stepped
-    ensures { λ r. ⌜ (record { session = r .session; bytes = now (text .exit) } ≡ told (stepOf (record { tables = now (tables .entry); area = now (area .entry); routes = now (routes .entry); entries = now (entries .entry) }) session reader (now («record» .entry)) .said) (now (text .entry))) × (r .reader ≡ stepOf (record { tables = now (tables .entry); area = now (area .entry); routes = now (routes .entry); entries = now (entries .entry) }) session reader (now («record» .entry)) .reader) × (record { tables = now (tables .exit); area = now (area .exit); routes = now (routes .exit); entries = now (entries .exit) } ≡ stepOf (record { tables = now (tables .entry); area = now (area .entry); routes = now (routes .entry); entries = now (entries .entry) }) session reader (now («record» .entry)) .lent) ⌝ }
+    ensures { λ r. ⌜ whole (r .session) (r .reader) (now (tables .exit)) (now (area .exit)) (now (routes .exit)) (now (entries .exit)) (now (text .exit))
+        ≡ wholeAfter (now («record» .entry)) (whole session reader (now (tables .entry)) (now (area .entry)) (now (routes .entry)) (now (entries .entry)) (now (text .entry))) ⌝ }
 {
-    if !session_cache::is_taken(session, record) {
+    if !session_state::is_taken(session, record) {
         return Stepped {
-            session: session_cache::malformed(text, session),
+            session: session_state::malformed(text, session),
             reader: reader,
         };
     }
-    let next = session_cache::numbered(session);
+    let next = session_state::record_counted(session);
     let kind = rows::u16_at(record, 0);
     let p = &record[2..];
     if reaches(kind, rows::byte_at(p, 0)) {
@@ -68,7 +68,7 @@ pub fn step(
         );
     }
     Stepped {
-        session: session_cache::plain(tables, area, routes, text, next, kind, p),
+        session: session_state::plain(tables, area, routes, text, next, kind, p),
         reader: reader,
     }
 }

@@ -3,50 +3,41 @@ ghost use mathlib.Core.Path.{_≡_};
 ghost use mathlib.Core.List.{_++_};
 ghost use lib.ListN.{take};
 ghost use Rattle.rows.specs.Rows.{wholeRows};
-ghost use Rattle.lines.specs.Lines.{show, entryLines, rangeLines};
+ghost use Rattle.text.specs.Shown.{show};
+ghost use Rattle.lines.specs.Lines.{entryLines, rangeLines};
 ghost use Rattle.externals_reader.specs.Calls.{readAllCall};
-ghost use Rattle.session_cache.specs.Said.{told};
-ghost use Rattle.session.specs.Steps.{noState, noReader, shardDone, readText, modeOf, doneSaid, doneReader, readSaid, readerSaid, readerReader, readerEntries};
-ghost use Rattle.session.specs.Steps.{settled as spec·settled};
+ghost use Rattle.session_rules.specs.Said.{printed};
+ghost use Rattle.session_rules.specs.Steps.{noState, noReader, shardDone, settingsDone, readText, modeOf, doneSaid, doneReader, readLeft, whole, readerWhole};
+ghost use Rattle.range_rules.specs.Rules.{entryLen};
 use crate::Stepped;
 use ext_types::ChainTime;
-use ext_types::ExternalKey;
-use externals_reader::ExternalsPartitionReaderState;
-use externals_reader::ExternalsReader;
-use externals_reader::ExternalsReaderState;
-use externals_reader::GetNextMessageGroupMode;
+use ext_types::NO_KEY;
 use externals_reader::ReadIntoBuffers;
 use externals_reader::ReaderDone;
-use messages_buffer::ExternalsPartitionRangeReaderState;
-use range_reader::ExternalsRangeReaderState;
-use range_reader::LastChainTime;
-use session_cache::Session;
+use messages_buffer::NO_PARTITION;
+use range_rules::ExternalsRangeReaderState;
+use range_rules::LastChainTime;
+use reader_rules::ExternalsPartitionReaderState;
+use reader_rules::ExternalsReader;
+use reader_rules::ExternalsReaderState;
+use reader_rules::GetNextMessageGroupMode;
+use session_rules::Session;
 
 // No range and no partition; every number is 0.
 fn no_state() -> ExternalsReaderState
     ensures { λ r. ⌜ r ≡ noState ⌝ }
 {
-    let key = ExternalKey {
-        anchor_id: 0,
-        msgs_offset: 0,
-    };
-    let none = ExternalsPartitionRangeReaderState {
-        count: 0,
-        skip_offset: 0,
-        processed_offset: 0,
-        present: false,
-    };
     let range = ExternalsRangeReaderState {
         seqno: 0,
-        from: key,
-        to: key,
-        current_position: key,
+        from: NO_KEY,
+        to: NO_KEY,
+        current_position: NO_KEY,
         chain_time: ChainTime(0),
         fully_read: false,
-        by_partitions: [none; 8],
+        by_partitions: [NO_PARTITION; 8],
     };
     let partition = ExternalsPartitionReaderState {
-        processed_to: key,
+        processed_to: NO_KEY,
         curr_processed_offset: 0,
         present: false,
     };
@@ -91,9 +82,10 @@ fn with_shard(reader: ExternalsReader, p: &[u8]) -> ReaderDone
     }
 }
 
-// `new` makes the reader, without ranges: next chain time 8, timeout 4, block seqno 4, open-ranges limit 1, new waiting 1, eight limits of 2.
-fn settled(reader: ExternalsReader, p: &[u8]) -> ReaderDone
-    ensures { λ r. ⌜ r ≡ spec·settled reader (now (p .entry)) ⌝ }
+// `new` makes the reader, without ranges. Bytes: next chain time 8, timeout 4, block seqno 4, open-ranges limit 1,
+// new waiting 1, eight limits of 2.
+fn with_settings(reader: ExternalsReader, p: &[u8]) -> ReaderDone
+    ensures { λ r. ⌜ r ≡ settingsDone reader (now (p .entry)) ⌝ }
 {
     let shard = reader.for_shard_id;
     let time = ChainTime(rows::u64_at(p, 0));
@@ -105,11 +97,11 @@ fn settled(reader: ExternalsReader, p: &[u8]) -> ReaderDone
 
 // The session after the shard or the settings: refused, or with the new reader.
 fn put_in(text: &mut [u8], session: Session, reader: ExternalsReader, done: ReaderDone) -> Stepped
-    ensures { λ r. ⌜ (record { session = r .session; bytes = now (text .exit) } ≡ told (doneSaid session done) (now (text .entry))) × (r .reader ≡ doneReader reader done) ⌝ }
+    ensures { λ r. ⌜ (record { session = r .session; bytes = now (text .exit) } ≡ printed (doneSaid session done) (now (text .entry))) × (r .reader ≡ doneReader reader done) ⌝ }
 {
     if done.number != 0 {
         return Stepped {
-            session: session_cache::bad(text, session, done.number),
+            session: session_state::bad(text, session, done.number),
             reader: reader,
         };
     }
@@ -128,7 +120,7 @@ fn put_answer(
     used: usize,
     state: ExternalsReaderState,
 ) -> usize
-    ensures { λ r. ⌜ record { at = r; bytes = now (text .exit) } ≡ show (entryLines (wholeRows 26 (take used (now (entries .entry)))) ++ rangeLines (take (state .len) (state .ranges))) (record { at = at; bytes = now (text .entry) }) ⌝ }
+    ensures { λ r. ⌜ record { at = r; bytes = now (text .exit) } ≡ show (entryLines (wholeRows entryLen (take used (now (entries .entry)))) ++ rangeLines (take (state .len) (state .ranges))) (record { at = at; bytes = now (text .entry) }) ⌝ }
 {
     if used <= entries.len() {
         let to = lines::put_entries(&mut *text, at, &entries[0..used]);
@@ -143,7 +135,7 @@ fn put_read(text: &mut [u8], at: usize, entries: &[u8], answer: ReadIntoBuffers)
     ensures { λ r. ⌜ record { at = r; bytes = now (text .exit) } ≡ show (readText answer (now (entries .entry))) (record { at = at; bytes = now (text .entry) }) ⌝ }
 {
     let number = answer.number;
-    let to = session_cache::put_called(&mut *text, at, 3, number);
+    let to = session_state::put_called(&mut *text, at, 3, number);
     if number != 0 {
         return to;
     }
@@ -171,9 +163,10 @@ fn read(
     reader: ExternalsReader,
     d: u8,
 ) -> Stepped
-    ensures { λ r. ⌜ (record { session = r .session; bytes = now (text .exit) } ≡ told (readSaid session (readAllCall (now (tables .entry)) (now (area .entry)) (session .cache) (now (routes .entry)) reader (modeOf d) (now (entries .entry)))) (now (text .entry))) × (r .reader ≡ (readAllCall (now (tables .entry)) (now (area .entry)) (session .cache) (now (routes .entry)) reader (modeOf d) (now (entries .entry))) .answer .reader) × (now (entries .exit) ≡ (readAllCall (now (tables .entry)) (now (area .entry)) (session .cache) (now (routes .entry)) reader (modeOf d) (now (entries .entry))) .out) ⌝ }
+    ensures { λ r. ⌜ record { session = r .session; reader = r .reader; entries = now (entries .exit); text = now (text .exit) }
+        ≡ readLeft session (readAllCall (now (tables .entry)) (now (area .entry)) (session .transaction) (now (routes .entry)) reader (modeOf d) (now (entries .entry))) (now (text .entry)) ⌝ }
 {
-    let t = session.cache;
+    let t = session.transaction;
     let mode = mode_of(d);
     let answer = externals_reader::read_into_buffers(
         tables,
@@ -184,10 +177,10 @@ fn read(
         mode,
         &mut *entries,
     );
-    let cache = answer.state;
+    let transaction = answer.state;
     let after = answer.reader;
     let mut s = session;
-    s.cache = cache;
+    s.transaction = transaction;
     s.at = put_read(text, session.at, &*entries, answer);
     Stepped {
         session: s,
@@ -207,18 +200,19 @@ pub fn step(
     kind: u16,
     p: &[u8],
 ) -> Stepped
-    ensures { λ r. ⌜ (record { session = r .session; bytes = now (text .exit) } ≡ told (readerSaid (record { tables = now (tables .entry); area = now (area .entry); routes = now (routes .entry); entries = now (entries .entry) }) session reader kind (now (p .entry))) (now (text .entry))) × (r .reader ≡ readerReader (record { tables = now (tables .entry); area = now (area .entry); routes = now (routes .entry); entries = now (entries .entry) }) session reader kind (now (p .entry))) × (now (entries .exit) ≡ readerEntries (record { tables = now (tables .entry); area = now (area .entry); routes = now (routes .entry); entries = now (entries .entry) }) session reader kind (now (p .entry))) ⌝ }
+    ensures { λ r. ⌜ whole (r .session) (r .reader) (now (tables .entry)) (now (area .entry)) (now (routes .entry)) (now (entries .exit)) (now (text .exit))
+        ≡ readerWhole kind (now (p .entry)) (whole session reader (now (tables .entry)) (now (area .entry)) (now (routes .entry)) (now (entries .entry)) (now (text .entry))) ⌝ }
 {
     if kind == records::SHARD {
         return put_in(text, session, reader, with_shard(reader, p));
     }
     if kind == records::SETTINGS {
-        return put_in(text, session, reader, settled(reader, p));
+        return put_in(text, session, reader, with_settings(reader, p));
     }
-    let n = session.routes;
+    let n = session.routes_len;
     if routes.len() < n {
         return Stepped {
-            session: session_cache::bad(text, session, 3),
+            session: session_state::bad(text, session, 3),
             reader: reader,
         };
     }

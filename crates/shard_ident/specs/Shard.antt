@@ -52,7 +52,8 @@ equalℤ (negsuc a) (negsuc b) = eqb a b
 unfoldable pub sameWorkchain : ℤ → ℕ → Bool
 sameWorkchain workchain byte = equalℤ (signedByte byte) workchain
 
--- Document 01: ours is "exactly if its workchain is equal and the bits above the tag equal those of the account's first 64 bits".
+-- Document 01: ours is "exactly if its workchain is equal and the bits above the tag equal those of the account's first
+-- 64 bits".
 abbrev pub inShard : ShardIdent → ℕ → ℕ → Bool
 inShard s workchain account = sameWorkchain (s .workchain) workchain && sameAboveTag (s .prefix) account
 

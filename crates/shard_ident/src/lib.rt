@@ -43,7 +43,8 @@ fn same_workchain(workchain: i32, byte: u8) -> bool
     w - 256 == workchain
 }
 
-// The bits above the tag are equal. The shift goes in two steps, since past a tag at bit 63 it is 64 bits, which one shift does not take.
+// The bits above the tag are equal. The shift goes in two steps, since past a tag at bit 63 it is 64 bits, which one
+// shift does not take.
 fn same_above_tag(prefix: u64, account: u64) -> bool
     requires { ⌜ 0 < prefix ⌝ }
     ensures { λ r. ⌜ r ≡ sameAboveTag prefix account ⌝ }
@@ -98,7 +99,8 @@ fn first_word(message: &[u8]) -> u64
         | wide(message[8])
 }
 
-// Whether a message, its workchain byte and its account's 32 bytes, is the shard's. Fewer bytes are no message and not ours; what stands after them is not looked at.
+// Whether a message, its workchain byte and its account's 32 bytes, is the shard's. Fewer bytes are no message and not
+// ours; what stands after them is not looked at.
 pub fn contains_message(shard: ShardIdent, message: &[u8]) -> Membership
     ensures { λ r. ⌜ answerOf r ≡ containsMessage shard (now (message .entry)) ⌝ }
 {

@@ -1,5 +1,5 @@
 use Rattle.anchors_cache.specs.declared.CachedAnchor.{CachedAnchor}
-use Rattle.anchors_cache.specs.Rules.{pendingUpTo}
+use Rattle.cache_rules.specs.Rules.{pendingUpTo}
 use Rattle.anchors_cache.specs.Calls.{pendingInRangeCall, flagAnswer}
 use Rattle.anchors_cache.proofs.Laws.{anchors-none, anchors-cons}
 use Rattle.anchors_cache.proofs.Asked.{on-not, seen-parts, front-decides}

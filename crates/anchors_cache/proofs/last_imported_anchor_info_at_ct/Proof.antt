@@ -1,6 +1,7 @@
 use Rattle.anchors_cache.specs.Tables.{historyOf}
 use Rattle.anchors_cache.specs.Calls.{infoAtCtCall, infoAnswer}
-use Rattle.anchors_cache.proofs.Laws.{history-kept-le, kept-history, at-ct}
+use Rattle.cache_rules.proofs.Lists.{at-ct}
+use Rattle.anchors_cache.proofs.Laws.{history-kept-le, kept-history}
 use Rattle.anchors_cache.proofs.Asked.{on-not, seen-parts}
 use Prim.Native.Nat.{_-_}
 use mathlib.Core.Path.{sym, _∙_}

@@ -7,6 +7,8 @@ use native.Mathlib.Omega.{arith}
 use borrow.Author.Needs.{needs}
 use Rattle.anchors_cache.proofs.shown_anchor.Statement.{statement}
 use Rattle.anchors_cache.proofs.shown_anchor.Tie as tie
+use Rattle.cache_rules.specs.Rules.{authorBytes}
+use Rattle.anchors_cache.specs.Tables.{historyBytes}
 
 returns : tie.Need-returns
 unfolding shownAnchor
@@ -47,14 +49,14 @@ unfolding shownAnchor
 returns-2 c =
     let a = c .before .before .before .before .before .args in
     let l = a .tables .now in
-    let at = 13312 + 50 * (a .first + a .i) in
+    let at = historyBytes + 50 * (a .first + a .i) in
     rw (
       anchors-take (a .first) (a .i) (a .len) l (omega arith),
       anchors-drop (a .first) (a .i) (a .len) l,
       anchors-cons (a .first + a .i) (a .len - a .i) l (omega arith),
       c .before .anchor-at .ensures .0,
       c .before .before .total-count .ensures .0,
-      c .author-at .ensures ∙ sym (part-part l at 50 12 32 (omega arith)),
+      c .author-at .ensures ∙ sym (part-part l at 50 12 authorBytes (omega arith)),
     )
 
 pub shown-anchor-spec : {M : Type 1} → statement M

@@ -1,5 +1,5 @@
 use Rattle.rows.proofs.Laws.{part-part}
-use Rattle.anchors_cache.specs.Rules.{lastOf}
+use Rattle.cache_rules.specs.Rules.{lastOf, authorBytes}
 use Rattle.anchors_cache.specs.Calls.{shownInfo}
 use Rattle.anchors_cache.proofs.Laws.{infos-none, last-info}
 use Prim.Native.Nat.{_+_, _-_, _*_}
@@ -39,7 +39,7 @@ returns-2 c =
     let a = c .before .before .before .before .args in
     let l = a .tables .now in
     let i = a .first + (a .len - 1) in
-    rw (last-info (a .first) (a .len) l (omega arith), c .before .info-at .ensures, c .author-at .ensures ∙ sym (part-part l (52 * i) 52 20 32 (omega arith)))
+    rw (last-info (a .first) (a .len) l (omega arith), c .before .info-at .ensures, c .author-at .ensures ∙ sym (part-part l (52 * i) 52 20 authorBytes (omega arith)))
 
 pub shown-info-spec : {M : Type 1} → statement M
 shown-info-spec =

@@ -1,6 +1,9 @@
--- `by_reference::get_partition` meets its contract: a walk of its MIR, by hand, with a loop. The slice is looked into once, before the loop, and shut where the function returns, in the loop or after it.
--- A turn computes the place of the element, copies it out of the row, and calls `same_route`, of which the proof knows only that it meets its contract; where that answers true the function returns, and else the turn goes on.
--- The loop's invariant: what the search finds from i on is what it finds in all. The variant is the number of routes left.
+-- `by_reference::get_partition` meets its contract: a walk of its MIR, by hand, with a loop. The slice is looked into
+-- once, before the loop, and shut where the function returns, in the loop or after it.
+-- A turn computes the place of the element, copies it out of the row, and calls `same_route`, of which the proof knows
+-- only that it meets its contract; where that answers true the function returns, and else the turn goes on.
+-- The loop's invariant: what the search finds from i on is what it finds in all. The variant is the number of routes
+-- left.
 -- Assumes nothing.
 use mathlib.Core.Path.{_≡_, refl, sym, ap, _∙_}
 use mathlib.Core.Bool.{Bool, true, false, not}
@@ -54,7 +57,7 @@ use denote.Triple.Table.{entered, cited}
 use denote.Triple.Walked.{says, Stays, stay-none-slice, stay-none, walkOf, goes-none-slice, goes-none, Walks, ends-at, walked, walk-meets}
 use denote.Exit.{yes}
 use Rattle.rows.specs.Rows.{pick as choose}
-use Rattle.by_reference.specs.Search.{sameRoute, partitionOf}
+use Rattle.by_reference.specs.Search.{sameRoute, firstPartitionIn}
 use Rattle.by_reference.specs.declared.Route.{Route}
 use Rattle.by_reference.proofs.Routes.{noRoute, route-step}
 use Rattle.by_reference.proofs.Route as T
@@ -159,7 +162,7 @@ module _ {M : Type 1} (𝓤 : URA M) (H : Heap 𝓤) (A : Atoms 𝓤) (W : Given
   abbrev Post : Val → SProp 𝓤
   Post = walkOf 𝓤 H A get-partition.ended stayed (get-partition.clauses 𝓤 H A mem run) .post (((κ, tt), (q, tt), tt, x, at), tt)
 
-  exits : (r : ℕ) → r < 2 ^ 8 → r ≡ partitionOf ys z acc → ent 𝓤 (⋆ 𝓤 H A (‵ (flft κ q) ∷ ‵ Own ∷ [])) (Post (vint w8 r))
+  exits : (r : ℕ) → r < 2 ^ 8 → r ≡ firstPartitionIn ys z acc → ent 𝓤 (⋆ 𝓤 H A (‵ (flft κ q) ∷ ‵ Own ∷ [])) (Post (vint w8 r))
   exits r fits e =
       qed W (‵ (flft κ q) ∷ ‵ Own ∷ []) ∵
       suffices ! _ (ends-at 𝓤 H A get-partition.ended stayed (get-partition.clauses 𝓤 H A mem run) W (((κ, tt), (q, tt), tt, x, at), tt) (vint w8 r) r (tt, (tt, (tt, tt))) (tt, (tt, (tt, tt)))) $ says ! e $
@@ -189,7 +192,8 @@ module _ {M : Type 1} (𝓤 : URA M) (H : Heap 𝓤) (A : Atoms 𝓤) (W : Given
     abbrev En : Env 𝓤 H
     En = (byte, l₀) ∷ (slice, l₁) ∷ (byte, l₂) ∷ (bytes, l₃) ∷ (word, l₄) ∷ (route, l₅) ∷ (word, l₆) ∷ (tyBool, l₇) ∷ (tyPtr, l₈) ∷ (route, l₉) ∷ (tyBool, l₁₀) ∷ []
 
-    -- where a turn begins: [the row; _4; room for _5 … _10; _1; _2; _3; room for _0; what shuts; what the slice owns; and that each local dies]
+    -- where a turn begins: [the row; _4; room for _5 … _10; _1; _2; _3; room for _0; what shuts; what the slice owns;
+    -- and that each local dies]
     abbrev At : ℕ → List (Item 𝓤)
     At i = ‵ (row R q′ ys b o) ∷ ‵ (fat fullShare word l₄ 0 (vint w64 i)) ∷ ‵ (froom route l₅ 0) ∷ ‵ (froom word l₆ 0) ∷ ‵ (froom tyBool l₇ 0) ∷ ‵ (froom tyPtr l₈ 0) ∷ ‵ (froom route l₉ 0) ∷ ‵ (froom tyBool l₁₀ 0)
         ∷ ‵ (fat fullShare slice l₁ 0 v) ∷ ‵ (fat fullShare byte l₂ 0 zv) ∷ ‵ (fat fullShare bytes l₃ 0 av) ∷ ‵ (froom byte l₀ 0)
@@ -202,7 +206,7 @@ module _ {M : Type 1} (𝓤 : URA M) (H : Heap 𝓤) (A : Atoms 𝓤) (W : Given
         ∷ ‵ (froom word l₄ 0) ∷ ‵ (fdies word l₄) ∷ ‵ (froom route l₅ 0) ∷ ‵ (fdies route l₅) ∷ ‵ (froom word l₆ 0) ∷ ‵ (fdies word l₆) ∷ ‵ (froom tyBool l₇ 0) ∷ ‵ (fdies tyBool l₇)
         ∷ ‵ (froom tyPtr l₈ 0) ∷ ‵ (fdies tyPtr l₈) ∷ ‵ (froom route l₉ 0) ∷ ‵ (fdies route l₉) ∷ ‵ (froom tyBool l₁₀ 0) ∷ ‵ (fdies tyBool l₁₀) ∷ []
 
-    released : (r : ℕ) → r < 2 ^ 8 → r ≡ partitionOf ys z acc → Sq W Rooms (frees En (prop (Post (vint w8 r))))
+    released : (r : ℕ) → r < 2 ^ 8 → r ≡ firstPartitionIn ys z acc → Sq W Rooms (frees En (prop (Post (vint w8 r))))
     released r fits e =
         move ! (2 ∷ 3 ∷ []) $ free1 ! $ move ! (2 ∷ 3 ∷ []) $ free1 ! $ move ! (2 ∷ 3 ∷ []) $ free1 ! $ move ! (2 ∷ 3 ∷ []) $ free1 ! $ move ! (2 ∷ 3 ∷ []) $ free1 ! $ move ! (2 ∷ 3 ∷ []) $ free1 ! $
         move ! (2 ∷ 3 ∷ []) $ free1 ! $ move ! (2 ∷ 3 ∷ []) $ free1 ! $ move ! (2 ∷ 3 ∷ []) $ free1 ! $ move ! (2 ∷ 3 ∷ []) $ free1 ! $ move ! (2 ∷ 3 ∷ []) $ free1 ! $ free0 ! $ by ! (exits r fits e)
@@ -215,7 +219,7 @@ module _ {M : Type 1} (𝓤 : URA M) (H : Heap 𝓤) (A : Atoms 𝓤) (W : Given
     elem i = getD ys i noRoute
 
     -- a turn at a place of the slice: it returns the element's partition, or goes on
-    more : (i : ℕ) (X : SProp 𝓤) → i < n → (sameRoute (elem i) z acc ≡ true → elem i .partition ≡ partitionOf ys z acc) → (sameRoute (elem i) z acc ≡ false → ent 𝓤 (⋆ 𝓤 H A (At (i + 1))) X)
+    more : (i : ℕ) (X : SProp 𝓤) → i < n → (sameRoute (elem i) z acc ≡ true → elem i .partition ≡ firstPartitionIn ys z acc) → (sameRoute (elem i) z acc ≡ false → ent 𝓤 (⋆ 𝓤 H A (At (i + 1))) X)
         → ent 𝓤 (⋆ 𝓤 H A (At i)) (Wp 𝓤 H C Λ En mir.turn-1 (afterTurn 𝓤 H X Left))
     unfolding afterTurn
     more i X small found k =
@@ -259,7 +263,7 @@ module _ {M : Type 1} (𝓤 : URA M) (H : Heap 𝓤) (A : Atoms 𝓤) (W : Given
         next-fits = omega (arith, p .0 .1 .0, small)
 
     -- the turn that leaves the loop, and the rest of the body
-    ends : (i : ℕ) (X : SProp 𝓤) → n ≤ i → 0 ≡ partitionOf ys z acc → ent 𝓤 (⋆ 𝓤 H A (At i)) (Wp 𝓤 H C Λ En mir.turn-1 (afterTurn 𝓤 H X Left))
+    ends : (i : ℕ) (X : SProp 𝓤) → n ≤ i → 0 ≡ firstPartitionIn ys z acc → ent 𝓤 (⋆ 𝓤 H A (At i)) (Wp 𝓤 H C Λ En mir.turn-1 (afterTurn 𝓤 H X Left))
     unfolding afterTurn
     ends i X past e =
         qed W (At i) ∵ exec ! C Λ En mir.turn-1 (anyQ (afterTurn 𝓤 H X Left)) $
@@ -274,7 +278,7 @@ module _ {M : Type 1} (𝓤 : URA M) (H : Heap 𝓤) (A : Atoms 𝓤) (W : Given
 
     -- the invariant, where t routes are left
     abbrev Facts : ℕ → ℕ → Type 0
-    Facts t i = (i + t ≡ n) × (partitionOf (drop i ys) z acc ≡ partitionOf ys z acc)
+    Facts t i = (i + t ≡ n) × (firstPartitionIn (drop i ys) z acc ≡ firstPartitionIn ys z acc)
 
     abbrev Inv : ℕ → SProp 𝓤
     Inv t = ex 𝓤 (λ (i : ℕ). guard 𝓤 (Facts t i) (⋆ 𝓤 H A (At i)))
@@ -289,14 +293,14 @@ module _ {M : Type 1} (𝓤 : URA M) (H : Heap 𝓤) (A : Atoms 𝓤) (W : Given
     below t u i less f = via 𝓤 (Inv u) (inv u i f) (via 𝓤 (guard 𝓤 (u < t) (Inv u)) (guardI 𝓤 (u < t) (Inv u) less) (exI 𝓤 (λ (w : ℕ). guard 𝓤 (w < t) (Inv w)) u))
 
     -- what the definition says at i
-    at-i : (i : ℕ) → i < n → (t : Bool) → sameRoute (elem i) z acc ≡ t → partitionOf (drop i ys) z acc ≡ choose t (elem i .partition) (partitionOf (drop (suc i) ys) z acc)
-    at-i i l t e = route-step ys z acc i l ∙ ap (λ (w : Bool). choose w (elem i .partition) (partitionOf (drop (suc i) ys) z acc)) e
+    at-i : (i : ℕ) → i < n → (t : Bool) → sameRoute (elem i) z acc ≡ t → firstPartitionIn (drop i ys) z acc ≡ choose t (elem i .partition) (firstPartitionIn (drop (suc i) ys) z acc)
+    at-i i l t e = route-step ys z acc i l ∙ ap (λ (w : Bool). choose w (elem i .partition) (firstPartitionIn (drop (suc i) ys) z acc)) e
 
     turn-at : (t i : ℕ) → Facts t i → ent 𝓤 (⋆ 𝓤 H A (At i)) (Wp 𝓤 H C Λ En mir.turn-1 (afterTurn 𝓤 H (Below t) Left))
-    turn-at zero i f = ends i (Below zero) (omega (arith, f .0)) (sym (ap (λ (rs : List Route). partitionOf rs z acc) (drop-of-length-le ys {i = i} (omega (arith, f .0)))) ∙ f .1)
+    turn-at zero i f = ends i (Below zero) (omega (arith, f .0)) (sym (ap (λ (rs : List Route). firstPartitionIn rs z acc) (drop-of-length-le ys {i = i} (omega (arith, f .0)))) ∙ f .1)
     turn-at (suc t) i f =
         more i (Below (suc t)) (small f) (λ e. sym (at-i i (small f) true e) ∙ f .1)
-        (λ e. below (suc t) t (i + 1) (omega arith) (omega (arith, f .0), ap (λ (j : ℕ). partitionOf (drop j ys) z acc) (add-one i) ∙ sym (at-i i (small f) false e) ∙ f .1))
+        (λ e. below (suc t) t (i + 1) (omega arith) (omega (arith, f .0), ap (λ (j : ℕ). firstPartitionIn (drop j ys) z acc) (add-one i) ∙ sym (at-i i (small f) false e) ∙ f .1))
       where
         small : Facts (suc t) i → i < n
         small f′ = omega (arith, f′ .0)

@@ -1,4 +1,5 @@
--- `by_reference::in_turn` meets its contract: a walk of its MIR, by hand. A local transaction is lent to each thin call in turn (`Lend.antt`), and comes back at the state that the call left.
+-- `by_reference::in_turn` meets its contract: a walk of its MIR, by hand. A local transaction is lent to each thin call
+-- in turn (`Lend.antt`), and comes back at the state that the call left.
 -- All that the proof knows of the calls is that each meets its contract.
 -- Assumes nothing.
 use mathlib.Core.Path.{refl}
@@ -178,7 +179,8 @@ module _ {M : Type 1} (𝓤 : URA M) (H : Heap 𝓤) (A : Atoms 𝓤) (W : Given
         pass1 ! (init ! 30 refl (shr-slice-lawful 𝓤 H A W (named 1) (κs .1 .0) u8 .typed q _ is-area .0)) $ pass1 ! (init ! 28 refl (LL.lawful Time.the-type Time′.the-laws 𝓤 H A W .typed ct _ is-ct .0)) $ pass0 ! $
         assigns ! (of-opd ! (load ! (from ! (stop !)) (look ! 34 refl))) (from ! (stop !)) (init ! 26 refl (LL.lawful T.the-type T′.the-laws 𝓤 H A W .typed h _ is .0)) $
         move ! (39 ∷ []) $ fsplit ! $ drop ! $ move ! (27 ∷ 39 ∷ 0 ∷ []) $
-        -- [_5; the tokens; Held; _18; …; _17; …; _16; …; _15; …; _14; …; _13; …; _12; …; _11; …; _10; …; _9; …; _8; …; _7; …; _6; …; that _5 dies; _4; …; _3; …; _2; …; _1; …; room for _0; …]
+        -- [_5; the tokens; Held; _18; …; _17; …; _16; …; _15; …; _14; …; _13; …; _12; …; _11; …; _10; …; _9; …; _8; …;
+        -- _7; …; _6; …; that _5 dies; _4; …; _3; …; _2; …; _1; …; room for _0; …]
         assigns ! (addr ! (from ! (stop !))) (from ! (stop !)) (init ! 15 refl (tt, tt)) $
         lent-call T.the-type T′.the-laws T′.the-plain (tyInt w8) (D.struct .name) number-and-state tables-area open-call 𝓤 H A W κs qs (now p, (now q, tt)) (λ κ. (p, (q, tt))) (λ κ. refl) Held lent-two C Λ fm #open (known .opens-it) h l₅ is
         (λ κ γ. and-then ! (load ! (from ! (stop !)) (look ! 15 refl)) (and-then ! (load ! (from ! (stop !)) (look ! 34 refl)) (and-then ! (load ! (from ! (stop !)) (look ! 32 refl)) (no-more !)))) (λ is-o w-o.

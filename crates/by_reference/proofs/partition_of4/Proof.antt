@@ -1,4 +1,5 @@
--- `by_reference::partition_of4` meets its contract: a walk of its MIR, by hand. A local array is lent as a slice to `get_partition`, for a lifetime that is made for the call, and comes back.
+-- `by_reference::partition_of4` meets its contract: a walk of its MIR, by hand. A local array is lent as a slice to
+-- `get_partition`, for a lifetime that is made for the call, and comes back.
 -- All that the proof knows of `get_partition` is that it meets its contract.
 -- Assumes nothing.
 use mathlib.Core.Path.{_≡_, refl, sym}
@@ -48,7 +49,7 @@ use denote.Triple.Spec.{Meets, tripleOf}
 use denote.Triple.Table.{entered, cited}
 use denote.Triple.Walked.{says, Stays, stay-none, walkOf, goes-none, Walks, ends-at, walked, walk-meets}
 use denote.Exit.{yes}
-use Rattle.by_reference.specs.Search.{partitionOf}
+use Rattle.by_reference.specs.Search.{firstPartitionIn}
 use Rattle.by_reference.specs.declared.Route.{Route}
 use Rattle.by_reference.proofs.Route as T
 use Rattle.by_reference.proofs.Route.Laws as T′
@@ -150,10 +151,10 @@ module _ {M : Type 1} (𝓤 : URA M) (H : Heap 𝓤) (A : Atoms 𝓤) (W : Given
       qed W (‵ (flft (ν ∷ []) fullShare) ∷ ‵ (Ref ν γ l) ∷ []) ∵ nothing ! $ move ! (1 ∷ 0 ∷ []) $ join ! $ nothing ! $ owned ! Account (Is Account) (array-makes 𝓤 H A W u8 (uint-makes 𝓤 H A W w8) 32) acc _ ga $ fjoin ! $
       owned ! i8 (Is i8) (sint-makes 𝓤 H A W w8) z _ gz $ fjoin ! $ move ! (2 ∷ 0 ∷ []) $ fjoin ! $ move ! (1 ∷ 0 ∷ []) $ join ! $ frame ! $ done !
 
-  said-get : (ν : ℕ) (γ : GName) (l : ℕ) (r : ℕ) → ent 𝓤 (ensured 𝓤 H A get.ended (get.clauses 𝓤 H A mem run) (ν ∷ [], tt) (passed γ l) tt r) (fact 𝓤 (r ≡ partitionOf ys z acc))
-  said-get ν γ l r = exE 𝓤 _ (λ ws. snd∗ 𝓤 (sem 𝓤 H A (lasts get.ended (ν ∷ [], tt) (passed γ l) ws)) (fact 𝓤 (r ≡ partitionOf ys z acc)))
+  said-get : (ν : ℕ) (γ : GName) (l : ℕ) (r : ℕ) → ent 𝓤 (ensured 𝓤 H A get.ended (get.clauses 𝓤 H A mem run) (ν ∷ [], tt) (passed γ l) tt r) (fact 𝓤 (r ≡ firstPartitionIn ys z acc))
+  said-get ν γ l r = exE 𝓤 _ (λ ws. snd∗ 𝓤 (sem 𝓤 H A (lasts get.ended (ν ∷ [], tt) (passed γ l) ws)) (fact 𝓤 (r ≡ firstPartitionIn ys z acc)))
 
-  exits : (r : ℕ) (u : Val) → r ≡ partitionOf ys z acc → ent 𝓤 (sem 𝓤 H A (u8 .own r (u ∷ []))) (Post u)
+  exits : (r : ℕ) (u : Val) → r ≡ firstPartitionIn ys z acc → ent 𝓤 (sem 𝓤 H A (u8 .own r (u ∷ []))) (Post u)
   exits r u e =
       qed W (‵ (u8 .own r (u ∷ [])) ∷ []) ∵ suffices ! _ (ends-at 𝓤 H A partition-of4.ended stayed (partition-of4.clauses 𝓤 H A mem run) W ((tt, tt, tt, x, at), tt) u r (tt, (tt, (tt, tt))) (tt, (tt, (tt, tt)))) $ says ! e $
       nothing ! $ owned ! Account (Is Account) (array-makes 𝓤 H A W u8 (uint-makes 𝓤 H A W w8) 32) acc _ ga $ fjoin ! $ owned ! i8 (Is i8) (sint-makes 𝓤 H A W w8) z _ gz $ fjoin ! $
@@ -178,7 +179,7 @@ module _ {M : Type 1} (𝓤 : URA M) (H : Heap 𝓤) (A : Atoms 𝓤) (W : Given
         -- [what get_partition asks; the lender's part; _6; …; _5; …; that _4 dies; _3; …; _2; …; _1; …; room for _0; …]
         calls-at ! fm (Get 𝓤 H A mem run) known (to-get ν γ l₄) (and-then ! (load ! (from ! (stop !)) (look ! 2 refl)) (and-then ! (load ! (from ! (stop !)) (look ! 9 refl)) (and-then ! (load ! (from ! (stop !)) (look ! 7 refl)) (no-more !)))) (λ u.
         use1 W (later (some (λ (r : ℕ). ((‵ (flft (ν ∷ []) fullShare) ⊛ ‵ ftrue) ⊛ ‵ (u8 .own r (u ∷ []))) ⊛ raw (ensured 𝓤 H A get.ended (get.clauses 𝓤 H A mem run) (ν ∷ [], tt) (passed γ l₄) tt r)))) (id⊢ 𝓤 _) $ await ! tt $ pick ! (λ r.
-        split ! $ move ! (1 ∷ []) $ use1 W (raw (fact 𝓤 (r ≡ partitionOf ys z acc))) (said-get ν γ l₄ r) $ heard ! (r ≡ partitionOf ys z acc) (λ e. split ! $ split ! $
+        split ! $ move ! (1 ∷ []) $ use1 W (raw (fact 𝓤 (r ≡ firstPartitionIn ys z acc))) (said-get ν γ l₄ r) $ heard ! (r ≡ firstPartitionIn ys z acc) (λ e. split ! $ split ! $
         -- the lifetime is ended, and the array is there again
         lft-end ! tt $ move ! (0 ∷ 3 ∷ []) $ lent-back ! tt $ rewrite ! 0 (λ (m : ℕ). ‵ (arr-parts (shares R) m .part fullShare ys l₄ 0)) long refl $ use1 W (‵ (fat fullShare four l₄ 0 (only (fvals ys)))) (together 𝓤 H A W ys l₄) $
         move ! (2 ∷ []) $ peeks ! u8 (Is u8) (shows 𝓤 H A u8) r (u ∷ []) (λ is.

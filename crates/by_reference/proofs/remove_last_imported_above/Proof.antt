@@ -1,4 +1,5 @@
--- `by_reference::remove_last_imported_above` meets its contract: the law of `Thin.antt` at `trimmed`, which meets its own.
+-- `by_reference::remove_last_imported_above` meets its contract: the law of `Thin.antt` at `trimmed`, which meets its
+-- own.
 -- Assumes nothing.
 use contract.Running.{givenOf, tables, tablesOf}
 use denote.Triple.Spec.{tripleOf}

@@ -1,4 +1,5 @@
--- `by_reference::rollback` meets its contract: the law of `Thin.antt` at `anchors_cache::rollback`, which meets its own.
+-- `by_reference::rollback` meets its contract: the law of `Thin.antt` at `anchors_cache::rollback`, which meets its
+-- own.
 -- Assumes nothing.
 use mir.Syntax.{w8, tyInt}
 use contract.Running.{givenOf, tables, tablesOf}

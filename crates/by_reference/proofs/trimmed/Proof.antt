@@ -1,6 +1,6 @@
 use mathlib.Core.Path.{ap}
 use borrow.Author.Needs.{needs}
-use Rattle.by_reference.specs.Answers.{trimming}
+use Rattle.by_reference.specs.Answers.{trimParted}
 use Rattle.by_reference.proofs.trimmed.Statement.{statement}
 use Rattle.by_reference.proofs.trimmed.Tie as tie
 
@@ -8,7 +8,7 @@ remove-last-imported-above-requires : tie.Need-remove-last-imported-above-requir
 remove-last-imported-above-requires c κs = search needs
 
 returns : tie.Need-returns
-returns c = ap trimming (c .before .before .remove-last-imported-above .ensures)
+returns c = ap trimParted (c .before .before .remove-last-imported-above .ensures)
 
 pub trimmed-spec : {M : Type 1} → statement M
 trimmed-spec = tie.close (tie.spec remove-last-imported-above-requires returns)

@@ -1,4 +1,5 @@
--- `ext_types::is_expired` meets its contract: where the anchor's time is above the range's, the age is 0 and never above a limit.
+-- `ext_types::is_expired` meets its contract: where the anchor's time is above the range's, the age is 0 and never
+-- above a limit.
 use Prim.Native.Nat.{_-_}
 use mathlib.Core.Path.{sym}
 use native.Mathlib.Omega.{arith}

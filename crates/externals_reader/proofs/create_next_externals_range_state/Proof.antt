@@ -1,7 +1,7 @@
 use lib.ListN.{length-map, length, getD}
 use Rattle.externals_reader.proofs.Sound.{sound-parts}
 use Rattle.externals_reader.specs.Calls.{nextRangeCall}
-use Rattle.externals_reader.specs.State.{noRange}
+use Rattle.reader_rules.specs.State.{noRange, maxRanges}
 use Prim.Native.Nat.{ℕ, _-_, _<_}
 use mathlib.Core.Path.{_≡_, sym, ap, _∙_}
 use native.Mathlib.Omega.{arith}
@@ -27,14 +27,14 @@ mul-last : tie.Need-mul-last
 mul-last c =
     let c-last-place = c .last-place in
     let f = sound-parts (c .before .before .before .before .before .before .before .args .reader .«reader_state») (sym (c .before .before .before .before .before .check-state .ensures) ∙ c .before .before .before .before .if1 .left) .0 in
-    let h : c-last-place .result < 16 = omega (arith, f, c-last-place .ensures) in
+    let h : c-last-place .result < maxRanges = omega (arith, f, c-last-place .ensures) in
     search (needs, h)
 
 array-copy-out-last : tie.Need-array-copy-out-last
 array-copy-out-last c =
     let c-args = c .before .before .before .before .before .before .before .args in
     let f = sound-parts (c-args .reader .«reader_state») (sym (c .before .before .before .before .before .check-state .ensures) ∙ c .before .before .before .before .if1 .left) .0 in
-    let n : length (c-args .reader .«reader_state» .ranges) ≡ 16 = sym (length-map (c-args .reader .«reader_state» .ranges) _) ∙ c .before .before .before .before .before .before .before .good .0 .1 .1 .1 .1 .1 .1 .1 .0 .1 .1 .0 .1 .0 .1 in
+    let n : length (c-args .reader .«reader_state» .ranges) ≡ maxRanges = sym (length-map (c-args .reader .«reader_state» .ranges) _) ∙ c .before .before .before .before .before .before .before .good .0 .1 .1 .1 .1 .1 .1 .1 .0 .1 .1 .0 .1 .0 .1 in
     omega (arith, n, f, c .last-place .ensures)
 
 next-range-requires : tie.Need-next-range-requires

@@ -3,11 +3,11 @@ use borrow.Author.Needs.{needs}
 use Rattle.externals_reader.proofs.reader_after.Statement.{statement}
 use Rattle.externals_reader.proofs.reader_after.Tie as tie
 
-later-requires : tie.Need-later-requires
-later-requires c κs = search needs
+time-saved-requires : tie.Need-time-saved-requires
+time-saved-requires c κs = search needs
 
 returns : tie.Need-returns
-returns c = rw (c .before .before .before .before .before .before .later .ensures)
+returns c = rw (c .before .before .before .before .before .before .time-saved .ensures)
 
 pub reader-after-spec : {M : Type 1} → statement M
-reader-after-spec = tie.close (tie.spec later-requires returns)
+reader-after-spec = tie.close (tie.spec time-saved-requires returns)

@@ -1,6 +1,7 @@
 use Rattle.externals_reader.proofs.Laws.{changed-no, changed-yes}
-use Rattle.range_reader.proofs.Numbers.{first-no, first-yes, first-alone}
-use Rattle.externals_reader.specs.Calls.{settledNumber, setLimitsCall}
+use Rattle.messages_buffer.proofs.Laws.{first-no, first-yes, first-alone}
+use Rattle.reader_rules.specs.State.{settledNumber}
+use Rattle.externals_reader.specs.Calls.{setLimitsCall}
 use Prim.Native.Nat.{_-_}
 use mathlib.Core.Path.{refl, sym, _∙_}
 use borrow.Author.Needs.{needs}

@@ -4,10 +4,10 @@ use Rattle.extprobe.proofs.replay.Statement.{statement}
 use Rattle.extprobe.proofs.replay.Tie as tie
 
 abbrev Inv-loop : tie.InvT-loop
-Inv-loop bytes₀ tables₀ area₀ routes₀ text₀ k₀ t10 t11 t12 t13 bytes tables area routes text k = Unit
+Inv-loop bytes₀ tables₀ area₀ routes₀ text₀ k₀ t10 t11 bytes tables area routes text k = Unit
 
 abbrev μ-loop : tie.MeasureT-loop
-μ-loop bytes₀ tables₀ area₀ routes₀ text₀ k₀ t10 t11 t12 t13 bytes tables area routes text k = 18446744073709551615 - k
+μ-loop bytes₀ tables₀ area₀ routes₀ text₀ k₀ t10 t11 bytes tables area routes text k = 18446744073709551615 - k
 
 loop-holds : tie.Need-loop-holds Inv-loop μ-loop
 loop-holds c = search needs
@@ -21,26 +21,20 @@ enum-known-framed c = search needs
 enum-told : tie.Need-enum-told Inv-loop μ-loop
 enum-told c = search needs
 
-slice-aggregate-print-one : tie.Need-slice-aggregate-print-one Inv-loop μ-loop
-slice-aggregate-print-one c = search needs
+slice-aggregate-print-count : tie.Need-slice-aggregate-print-count Inv-loop μ-loop
+slice-aggregate-print-count c = search needs
 
-slice-aggregate-print-one-2 : tie.Need-slice-aggregate-print-one-2 Inv-loop μ-loop
-slice-aggregate-print-one-2 c = search needs
-
-print-one-requires : tie.Need-print-one-requires Inv-loop μ-loop
-print-one-requires c κs = search needs
+print-count-requires : tie.Need-print-count-requires Inv-loop μ-loop
+print-count-requires c κs = search needs
 
 returns : tie.Need-returns Inv-loop μ-loop
 returns c = search needs
 
-slice-aggregate-print-one-3 : tie.Need-slice-aggregate-print-one-3 Inv-loop μ-loop
-slice-aggregate-print-one-3 c = search needs
+slice-aggregate-print-count-2 : tie.Need-slice-aggregate-print-count-2 Inv-loop μ-loop
+slice-aggregate-print-count-2 c = search needs
 
-slice-aggregate-print-one-4 : tie.Need-slice-aggregate-print-one-4 Inv-loop μ-loop
-slice-aggregate-print-one-4 c = search needs
-
-print-one-requires-2 : tie.Need-print-one-requires-2 Inv-loop μ-loop
-print-one-requires-2 c κs = search needs
+print-count-requires-2 : tie.Need-print-count-requires-2 Inv-loop μ-loop
+print-count-requires-2 c κs = search needs
 
 session-requires : tie.Need-session-requires Inv-loop μ-loop
 session-requires c κs = search needs
@@ -67,13 +61,11 @@ replay-spec =
     read-session-requires
     enum-known-framed
     enum-told
-    slice-aggregate-print-one
-    slice-aggregate-print-one-2
-    print-one-requires
+    slice-aggregate-print-count
+    print-count-requires
     returns
-    slice-aggregate-print-one-3
-    slice-aggregate-print-one-4
-    print-one-requires-2
+    slice-aggregate-print-count-2
+    print-count-requires-2
     session-requires
     add-k
     loop-less

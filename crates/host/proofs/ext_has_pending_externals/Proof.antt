@@ -1,5 +1,5 @@
 use mathlib.Core.Path.{ap, _∙_}
-use Rattle.reader_offsets.specs.Calls.{pendingCall}
+use Rattle.reader_offsets.specs.Calls.{pendingExternalsCall}
 use borrow.Author.Needs.{needs}
 use Rattle.host.proofs.ext_has_pending_externals.Statement.{statement}
 use Rattle.host.proofs.ext_has_pending_externals.Tie as tie
@@ -13,7 +13,7 @@ has-pending-externals-requires c κs = search needs
 returns : tie.Need-returns
 returns c =
     let c-args = c .before .before .before .args in
-    c .has-pending-externals .ensures ∙ ap (pendingCall (c-args .tables .now) (c-args .t)) (c .before .reader-of .ensures)
+    c .has-pending-externals .ensures ∙ ap (pendingExternalsCall (c-args .tables .now) (c-args .t)) (c .before .reader-of .ensures)
 
 pub ext-has-pending-externals-spec : {M : Type 1} → statement M
 ext-has-pending-externals-spec =

@@ -1,4 +1,5 @@
--- `host::ext_new_reader` meets its contract: the law of `by_reference`'s `Thin.antt` at `cores::entered`, which meets its own.
+-- `host::ext_new_reader` meets its contract: the law of `by_reference`'s `Thin.antt` at `cores::entered`, which meets
+-- its own.
 -- Assumes nothing.
 use contract.Running.{givenOf, tables, tablesOf}
 use denote.Triple.Spec.{tripleOf}
@@ -6,7 +7,7 @@ use denote.Triple.Table.{entered, cited}
 use mathlib.Core.List.{[]}
 use mir.Syntax.{w8, tyInt}
 use Rattle.by_reference.proofs.Thin.{thin-meets}
-use Rattle.host.specs.Calls.{entered as entering}
+use Rattle.host.specs.Calls.{newShown as entering}
 use Rattle.host.proofs.Reader as R
 use Rattle.host.proofs.Reader.Laws as R′
 use Rattle.host.proofs.ReaderAfter as O

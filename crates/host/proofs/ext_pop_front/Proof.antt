@@ -1,4 +1,5 @@
--- `host::ext_pop_front` meets its contract: the law of `by_reference`'s `Thin.antt` at `cores::popped`, which meets its own.
+-- `host::ext_pop_front` meets its contract: the law of `by_reference`'s `Thin.antt` at `cores::popped`, which meets its
+-- own.
 -- Assumes nothing.
 use contract.Running.{givenOf, tables, tablesOf}
 use denote.Triple.Spec.{tripleOf}
@@ -9,7 +10,7 @@ use Rattle.anchors_cache.proofs.AnchorsCacheTransaction.Laws as T′
 use Rattle.anchors_cache.specs.Calls.{popCall}
 use Rattle.by_reference.proofs.Thin.{thin-meets}
 use Rattle.by_reference.proofs.Calls.{tables-area}
-use Rattle.host.specs.Calls.{popped}
+use Rattle.host.specs.Calls.{popShown}
 use Rattle.host.proofs.Results.{front-and-state}
 use Rattle.host.proofs.AnchorShown.Laws as S′
 use Rattle.host.proofs.AnchorPopped as O
@@ -27,5 +28,5 @@ unfolding code.routine tablesOf
 ext-pop-front-spec 𝓤 H 𝓜 𝓖 𝓡 =
     entered 𝓤 H (tripleOf 𝓤 H (𝓖 .A) f.signature (f.spec 𝓤 H (𝓖 .A) (𝓜 .mem) (𝓡 .run)))
     (tables 𝓤 H 𝓜 𝓡 code.env .C) (tables 𝓤 H 𝓜 𝓡 code.env .Λ) #host·ext-pop-front code.function (code.unfolded 𝓤 H 𝓜 𝓡)
-    (thin-meets T.the-type T′.the-laws T′.the-plain S′.mir (O.struct .name) front-and-state tables-area (λ s t. popped (popCall (length (s .1 .0)) (s .0) t)) #host·cores·popped 𝓤 H (𝓖 .A) (givenOf 𝓤 H 𝓜 𝓖) (tablesOf 𝓤 H 𝓜 (tables 𝓤 H 𝓜 𝓡 code.env))
+    (thin-meets T.the-type T′.the-laws T′.the-plain S′.mir (O.struct .name) front-and-state tables-area (λ s t. popShown (popCall (length (s .1 .0)) (s .0) t)) #host·cores·popped 𝓤 H (𝓖 .A) (givenOf 𝓤 H 𝓜 𝓖) (tablesOf 𝓤 H 𝓜 (tables 𝓤 H 𝓜 𝓡 code.env))
     (cited 𝓤 H (tripleOf 𝓤 H (𝓖 .A) core.signature (core.spec 𝓤 H (𝓖 .A) (𝓜 .mem) (𝓡 .run))) 𝓜 𝓡 code.env #host·cores·popped core-def.routine code.calls-host·cores·popped (core-thm.met 𝓤 H 𝓜 𝓖 𝓡)))

@@ -1,4 +1,5 @@
--- `host::ext_read_externals_into_buffers` meets its contract: the law of `by_reference`'s `Thin.antt` at `cores::range_read`, which meets its own.
+-- `host::ext_read_externals_into_buffers` meets its contract: the law of `by_reference`'s `Thin.antt` at
+-- `cores::range_read`, which meets its own.
 -- Assumes nothing.
 use contract.Running.{givenOf, tables, tablesOf}
 use denote.Triple.Spec.{tripleOf}

@@ -1,4 +1,5 @@
--- `host::ext_rollback` meets its contract: the law of `by_reference`'s `Thin.antt` at `anchors_cache::rollback`, which meets its own.
+-- `host::ext_rollback` meets its contract: the law of `by_reference`'s `Thin.antt` at `anchors_cache::rollback`, which
+-- meets its own.
 -- Assumes nothing.
 use contract.Running.{givenOf, tables, tablesOf}
 use denote.Triple.Spec.{tripleOf}

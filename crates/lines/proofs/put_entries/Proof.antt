@@ -5,16 +5,18 @@ use native.Mathlib.Omega.{arith}
 use lib.ListN.{length, drop}
 use borrow.Author.Needs.{needs}
 use Rattle.rows.specs.Rows.{rows, wholeRows}
-use Rattle.lines.specs.Lines.{show, entryLines}
+use Rattle.text.specs.Shown.{show}
+use Rattle.lines.specs.Lines.{entryLines}
 use Rattle.lines.proofs.Laws.{entries-turn, entries-end}
 use Rattle.lines.proofs.put_entries.Statement.{statement}
 use Rattle.lines.proofs.put_entries.Tie as tie
+use Rattle.range_rules.specs.Rules.{entryLen}
 
 abbrev Inv-loop : tie.InvT-loop
 Inv-loop out₀ at entries to₀ from₀ left₀ out to from left =
     (from + 26 * left ≤ length entries)
     × (length out ≡ length out₀)
-    × (show (entryLines (rows 26 left (drop from entries))) (record { at = to; bytes = out }) ≡ show (entryLines (wholeRows 26 entries)) (record { at = at; bytes = out₀ }))
+    × (show (entryLines (rows 26 left (drop from entries))) (record { at = to; bytes = out }) ≡ show (entryLines (wholeRows entryLen entries)) (record { at = at; bytes = out₀ }))
 
 abbrev μ-loop : tie.MeasureT-loop
 μ-loop out₀ at entries to₀ from₀ left₀ out to from left = left

@@ -4,7 +4,8 @@ use mathlib.Core.Path.{_≡_, refl, sym, _∙_}
 use native.Mathlib.Omega.{arith}
 use lib.ListN.{length-take, length-map, length, take, drop}
 use borrow.Author.Needs.{needs}
-use Rattle.lines.specs.Lines.{show, rangeLines}
+use Rattle.text.specs.Shown.{show}
+use Rattle.lines.specs.Lines.{rangeLines}
 use Rattle.lines.proofs.Laws.{ranges-turn, ranges-end}
 use Rattle.lines.proofs.put_ranges.Statement.{statement}
 use Rattle.lines.proofs.put_ranges.Tie as tie

@@ -2,7 +2,7 @@
 use mathlib.Core.Path.{_≡_, sym, _∙_}
 use native.Mathlib.Omega.{arith}
 use borrow.Author.Needs.{needs}
-use Rattle.externals_reader.specs.State.{stateNumber}
+use Rattle.reader_rules.specs.State.{stateNumber}
 use Rattle.reader_offsets.specs.Calls.{allCollectedCall}
 use Rattle.reader_offsets.proofs.Numbers.{flag-refused, flag-done}
 use Rattle.externals_reader.proofs.Sound.{sound-parts}

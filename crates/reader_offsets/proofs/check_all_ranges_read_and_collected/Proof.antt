@@ -3,7 +3,7 @@ use mathlib.Core.Path.{_≡_, sym, _∙_}
 use native.Mathlib.Omega.{arith}
 use borrow.Author.Tests.{not-true, not-false}
 use borrow.Author.Needs.{needs}
-use Rattle.externals_reader.specs.State.{stateNumber}
+use Rattle.reader_rules.specs.State.{stateNumber}
 use Rattle.reader_offsets.specs.Calls.{checkReadAndCollectedCall}
 use Rattle.reader_offsets.proofs.Numbers.{flag-refused, flag-done, first-no-no, yes-then}
 use Rattle.externals_reader.proofs.Sound.{sound-parts}

@@ -3,7 +3,7 @@ use mathlib.Core.Path.{_≡_, sym, _∙_}
 use native.Mathlib.Omega.{arith}
 use lib.ListN.{length, length-map}
 use borrow.Author.Needs.{needs}
-use Rattle.externals_reader.specs.State.{stateNumber}
+use Rattle.reader_rules.specs.State.{stateNumber, maxRanges}
 use Rattle.reader_offsets.specs.Calls.{countCall}
 use Rattle.reader_offsets.proofs.Numbers.{partitions-refused, partitions-done}
 use Rattle.reader_offsets.proofs.Changes.{sum-fits}
@@ -22,7 +22,7 @@ by-partitions-requires : tie.Need-by-partitions-requires
 by-partitions-requires c κs =
     let s = c .before .before .before .before .args .reader in
     let sound : stateNumber (s .«reader_state») ≡ 0 = sym (c .before .before .check-state .ensures) ∙ c .before .if1 .left in
-    let n : length (s .«reader_state» .ranges) ≡ 16 = sym (length-map (s .«reader_state» .ranges) _) ∙ c .before .before .before .before .good .0 .1 .1 .1 .1 .1 .1 .1 .0 .1 .1 .0 .1 .0 .1 in
+    let n : length (s .«reader_state» .ranges) ≡ maxRanges = sym (length-map (s .«reader_state» .ranges) _) ∙ c .before .before .before .before .good .0 .1 .1 .1 .1 .1 .1 .1 .0 .1 .1 .0 .1 .0 .1 in
     (omega (arith, (sound-parts (s .«reader_state») sound) .0), sum-fits s sound (omega (arith, n, (sound-parts (s .«reader_state») sound) .0)))
 
 returns-2 : tie.Need-returns-2

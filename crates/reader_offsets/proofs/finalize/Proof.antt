@@ -4,7 +4,7 @@ use native.Mathlib.Omega.{arith}
 use lib.ListN.{length, length-map}
 use borrow.Author.Tests.{not-true, not-false}
 use borrow.Author.Needs.{needs}
-use Rattle.externals_reader.specs.State.{stateNumber}
+use Rattle.reader_rules.specs.State.{stateNumber, maxRanges}
 use Rattle.reader_offsets.specs.Calls.{finalizeCall}
 use Rattle.reader_offsets.proofs.Numbers.{refused-5, refused-15, done}
 use Rattle.reader_offsets.proofs.Changes.{nothing-to-finalize, finalize-done}
@@ -39,7 +39,7 @@ unfolding finalizeCall
 returns-3 c =
     let s = c .before .before .before .before .before .before .before .before .args .reader in
     let sound : stateNumber (s .«reader_state») ≡ 0 = sym (c .before .before .before .before .before .before .check-state .ensures) ∙ c .before .before .before .before .before .if1 .left in
-    let n : length (s .«reader_state» .ranges) ≡ 16 = sym (length-map (s .«reader_state» .ranges) _) ∙ c .before .before .before .before .before .before .before .before .good .0 .1 .1 .1 .1 .1 .1 .1 .0 .1 .1 .0 .1 .0 .1 in
+    let n : length (s .«reader_state» .ranges) ≡ maxRanges = sym (length-map (s .«reader_state» .ranges) _) ∙ c .before .before .before .before .before .before .before .before .good .0 .1 .1 .1 .1 .1 .1 .1 .0 .1 .1 .0 .1 .0 .1 in
     done s _ _ _ sound (sym (c .before .before .every-range .ensures) ∙ not-false _ (c .before .if2 .left)) refl _ (nothing-to-finalize s sound (omega (arith, n, (sound-parts (s .«reader_state») sound) .0)) (s .«reader_state» .«by_partitions») (c .if3 .taken))
 
 last-range-requires : tie.Need-last-range-requires
@@ -85,7 +85,7 @@ returns-4 c =
     let c-raised-range = c .before .before .raised-range in
     let s = c .before .before .before .before .before .before .before .before .before .before .before .before .args .reader in
     let sound : stateNumber (s .«reader_state») ≡ 0 = sym (c .before .before .before .before .before .before .before .before .before .before .check-state .ensures) ∙ c .before .before .before .before .before .before .before .before .before .if1 .left in
-    let n : length (s .«reader_state» .ranges) ≡ 16 = sym (length-map (s .«reader_state» .ranges) _) ∙ c .before .before .before .before .before .before .before .before .before .before .before .before .good .0 .1 .1 .1 .1 .1 .1 .1 .0 .1 .1 .0 .1 .0 .1 in
+    let n : length (s .«reader_state» .ranges) ≡ maxRanges = sym (length-map (s .«reader_state» .ranges) _) ∙ c .before .before .before .before .before .before .before .before .before .before .before .before .good .0 .1 .1 .1 .1 .1 .1 .1 .0 .1 .1 .0 .1 .0 .1 in
     done s _ _ _ sound (sym (c .before .before .before .before .before .before .every-range .ensures) ∙ not-false _ (c .before .before .before .before .before .if2 .left)) refl _ (c .with-ranges .ensures ∙ finalize-done s sound (omega (arith, n, (sound-parts (s .«reader_state») sound) .0)) (s .«reader_state» .«by_partitions») (omega (arith, c .before .before .before .before .if3 .left)) (c-last-range .result) (c-raised-range .result) _ (c-last-range .ensures) (c-raised-range .ensures) (c .before .marked-ranges .ensures))
 
 pub finalize-spec : {M : Type 1} → statement M

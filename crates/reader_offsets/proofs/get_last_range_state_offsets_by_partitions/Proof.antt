@@ -4,8 +4,8 @@ use mathlib.Core.Bool.{true}
 use native.Mathlib.Omega.{arith}
 use lib.ListN.{length, length-map}
 use borrow.Author.Needs.{needs}
-use Rattle.externals_reader.specs.State.{stateNumber}
-use Rattle.reader_offsets.specs.Rules.{shownBy}
+use Rattle.reader_rules.specs.State.{stateNumber, maxRanges}
+use Rattle.reader_rules.specs.Offsets.{shownBy}
 use Rattle.reader_offsets.specs.Calls.{lastOffsetsCall}
 use Rattle.reader_offsets.proofs.Numbers.{partitions-refused, partitions-done}
 use Rattle.reader_offsets.proofs.Changes.{last-part, last-fits}
@@ -20,27 +20,27 @@ returns : tie.Need-returns
 unfolding lastOffsetsCall
 returns c = partitions-refused _ _ (sym (c .before .check-state .ensures)) (c .if1 .taken) _
 
-last-at-requires : tie.Need-last-at-requires
-last-at-requires c κs = search needs
+last-place-requires : tie.Need-last-place-requires
+last-place-requires c κs = search needs
 
 sub-by-partitions : tie.Need-sub-by-partitions
 sub-by-partitions c = search needs
 
 by-partitions-requires : tie.Need-by-partitions-requires
 by-partitions-requires c κs =
-    let c-last-at = c .last-at in
+    let c-last-place = c .last-place in
     let s = c .before .before .before .before .before .args .reader in
     let sound : stateNumber (s .«reader_state») ≡ 0 = sym (c .before .before .before .check-state .ensures) ∙ c .before .before .if1 .left in
-    let n : length (s .«reader_state» .ranges) ≡ 16 = sym (length-map (s .«reader_state» .ranges) _) ∙ c .before .before .before .before .before .good .0 .1 .1 .1 .1 .1 .1 .1 .0 .1 .1 .0 .1 .0 .1 in
-    (omega (arith, (sound-parts (s .«reader_state») sound) .0, c-last-at .ensures), last-fits s sound (omega (arith, n, (sound-parts (s .«reader_state») sound) .0)) _ (c-last-at .ensures))
+    let n : length (s .«reader_state» .ranges) ≡ maxRanges = sym (length-map (s .«reader_state» .ranges) _) ∙ c .before .before .before .before .before .good .0 .1 .1 .1 .1 .1 .1 .1 .0 .1 .1 .0 .1 .0 .1 in
+    (omega (arith, (sound-parts (s .«reader_state») sound) .0, c-last-place .ensures), last-fits s sound (omega (arith, n, (sound-parts (s .«reader_state») sound) .0)) _ (c-last-place .ensures))
 
 returns-2 : tie.Need-returns-2
 unfolding lastOffsetsCall
 returns-2 c =
     let s = c .before .before .before .before .before .before .args .reader in
     let sound : stateNumber (s .«reader_state») ≡ 0 = sym (c .before .before .before .before .check-state .ensures) ∙ c .before .before .before .if1 .left in
-    let n : length (s .«reader_state» .ranges) ≡ 16 = sym (length-map (s .«reader_state» .ranges) _) ∙ c .before .before .before .before .before .before .good .0 .1 .1 .1 .1 .1 .1 .1 .0 .1 .1 .0 .1 .0 .1 in
-    partitions-done _ sound _ _ (c .by-partitions .ensures ∙ ap (shownBy true) (last-part (s .«reader_state» .ranges) (s .«reader_state» .len) (omega (arith, n, (sound-parts (s .«reader_state») sound) .0)) _ (c .before .last-at .ensures)))
+    let n : length (s .«reader_state» .ranges) ≡ maxRanges = sym (length-map (s .«reader_state» .ranges) _) ∙ c .before .before .before .before .before .before .good .0 .1 .1 .1 .1 .1 .1 .1 .0 .1 .1 .0 .1 .0 .1 in
+    partitions-done _ sound _ _ (c .by-partitions .ensures ∙ ap (shownBy true) (last-part (s .«reader_state» .ranges) (s .«reader_state» .len) (omega (arith, n, (sound-parts (s .«reader_state») sound) .0)) _ (c .before .last-place .ensures)))
 
 pub get-last-range-state-offsets-by-partitions-spec : {M : Type 1} → statement M
 get-last-range-state-offsets-by-partitions-spec =
@@ -48,7 +48,7 @@ get-last-range-state-offsets-by-partitions-spec =
     (tie.spec
     check-state-requires
     returns
-    last-at-requires
+    last-place-requires
     sub-by-partitions
     by-partitions-requires
     returns-2)

@@ -1,7 +1,7 @@
 -- Each return is the answer to the first "no", or the rule's.
 use mathlib.Core.Path.{_≡_, refl, sym, _∙_}
 use borrow.Author.Needs.{needs}
-use Rattle.externals_reader.specs.State.{stateNumber}
+use Rattle.reader_rules.specs.State.{stateNumber}
 use Rattle.reader_offsets.specs.Calls.{notFullyReadCall}
 use Rattle.reader_offsets.proofs.Numbers.{flag-refused, flag-done}
 use Rattle.reader_offsets.proofs.has_not_fully_read_ranges.Statement.{statement}

@@ -4,10 +4,10 @@ use mathlib.Core.Path.{_≡_, sym, ap, _∙_}
 use native.Mathlib.Omega.{arith}
 use borrow.Author.Tests.{not-true, not-false, lt-ltb, le-ltb}
 use borrow.Author.Needs.{needs}
-use Rattle.externals_reader.specs.State.{stateNumber}
-use Rattle.reader_offsets.specs.Rules.{partitionOf, withPartition, withOffset}
+use Rattle.reader_rules.specs.State.{stateNumber}
+use Rattle.reader_rules.specs.Offsets.{readerPartition, withPartition, withOffset}
 use Rattle.reader_offsets.specs.Calls.{incrementCall}
-use Rattle.externals_reader.specs.declared.ExternalsPartitionReaderState.{ExternalsPartitionReaderState}
+use Rattle.reader_rules.specs.declared.ExternalsPartitionReaderState.{ExternalsPartitionReaderState}
 use Rattle.reader_offsets.proofs.Numbers.{refused-5, refused-15, refused-16, done}
 use Rattle.reader_offsets.proofs.increment_curr_processed_offset.Statement.{statement}
 use Rattle.reader_offsets.proofs.increment_curr_processed_offset.Tie as tie
@@ -39,7 +39,7 @@ returns-3 c =
     let s = c-args .reader in
     let sound : stateNumber (s .«reader_state») ≡ 0 = sym (c .before .before .before .before .before .before .before .check-state .ensures) ∙ c .before .before .before .before .before .before .if1 .left in
     let i = c-args .par-id in
-    let p = partitionOf i (s .«reader_state» .«by_partitions») in
+    let p = readerPartition i (s .«reader_state» .«by_partitions») in
     let q = ap (λ (z : ExternalsPartitionReaderState). z .«curr_processed_offset») (c-partition-at .ensures) in
     refused-16 s _ _ _ sound (sym (ap (λ (z : ExternalsPartitionReaderState). z .present) (c-partition-at .ensures)) ∙ not-false _ (c .before .before .if2 .left)) (le-ltb (p .«curr_processed_offset» + 1) 4294967296 (omega (arith, q, c .if3 .taken)))
 
@@ -57,7 +57,7 @@ returns-4 c =
     let s = c-args .reader in
     let sound : stateNumber (s .«reader_state») ≡ 0 = sym (c .before .before .before .before .before .before .before .before .before .check-state .ensures) ∙ c .before .before .before .before .before .before .before .before .if1 .left in
     let i = c-args .par-id in
-    let p = partitionOf i (s .«reader_state» .«by_partitions») in
+    let p = readerPartition i (s .«reader_state» .«by_partitions») in
     let q = ap (λ (z : ExternalsPartitionReaderState). z .«curr_processed_offset») (c-partition-at .ensures) in
     let b : c-partition-at .result .«curr_processed_offset» < 4294967296 = search needs in
     done s _ _ _ sound (sym (ap (λ (z : ExternalsPartitionReaderState). z .present) (c-partition-at .ensures)) ∙ not-false _ (c .before .before .before .before .if2 .left)) (lt-ltb (p .«curr_processed_offset» + 1) 4294967296 (omega (arith, q, b, c .before .before .if3 .left))) _ (c .with-partition .ensures ∙ ap (λ (z : ExternalsPartitionReaderState). withPartition i (withOffset (z .«curr_processed_offset» + 1) z) s) (c-partition-at .ensures))

@@ -6,11 +6,11 @@ use lib.ListN.{length, length-map}
 use borrow.Author.Tests.{not-true, not-false}
 use borrow.Author.Needs.{needs}
 use Rattle.messages_buffer.specs.declared.ExternalsPartitionRangeReaderState.{ExternalsPartitionRangeReaderState}
-use Rattle.externals_reader.specs.State.{heldRanges, stateNumber}
-use Rattle.reader_offsets.specs.Rules.{meets, partitionOf, recordOf, rangeAt}
+use Rattle.reader_rules.specs.State.{heldRanges, stateNumber, maxRanges}
+use Rattle.reader_rules.specs.Offsets.{meets, readerPartition, recordOf, rangeAt}
 use Rattle.reader_offsets.specs.Calls.{offsetReachedCall}
-use Rattle.reader_offsets.specs.declared.PartitionTest.the-variants.{Reached}
-use Rattle.externals_reader.specs.declared.ExternalsPartitionReaderState.{ExternalsPartitionReaderState}
+use Rattle.reader_rules.specs.declared.PartitionTest.the-variants.{Reached}
+use Rattle.reader_rules.specs.declared.ExternalsPartitionReaderState.{ExternalsPartitionReaderState}
 use Rattle.reader_offsets.proofs.Numbers.{flag-refused, flag-done, missing-yes, present-asks}
 use Rattle.reader_offsets.proofs.Changes.{last-place}
 use Rattle.externals_reader.proofs.Sound.{sound-parts}
@@ -34,8 +34,8 @@ returns-2 c =
     let sound : stateNumber (s .«reader_state») ≡ 0 = sym (c .before .before .before .before .before .check-state .ensures) ∙ c .before .before .before .before .if1 .left in
     flag-done _ sound _ _ (missing-yes _ _ (sym (ap (λ (z : ExternalsPartitionReaderState). z .present) (c .before .before .partition-at .ensures)) ∙ not-true _ (c .if2 .taken)))
 
-last-at-requires : tie.Need-last-at-requires
-last-at-requires c κs = search needs
+last-place-requires : tie.Need-last-place-requires
+last-place-requires c κs = search needs
 
 record-of-requires : tie.Need-record-of-requires
 record-of-requires c κs =
@@ -55,9 +55,9 @@ returns-3 c =
     let s = c-args .reader in
     let sound : stateNumber (s .«reader_state») ≡ 0 = sym (c .before .before .before .before .before .before .before .before .check-state .ensures) ∙ c .before .before .before .before .before .before .before .if1 .left in
     let i = c-args .par-id in
-    let n : length (s .«reader_state» .ranges) ≡ 16 = sym (length-map (s .«reader_state» .ranges) _) ∙ c .before .before .before .before .before .before .before .before .before .before .good .0 .1 .1 .1 .1 .1 .1 .1 .0 .1 .1 .0 .1 .0 .1 in
+    let n : length (s .«reader_state» .ranges) ≡ maxRanges = sym (length-map (s .«reader_state» .ranges) _) ∙ c .before .before .before .before .before .before .before .before .before .before .good .0 .1 .1 .1 .1 .1 .1 .1 .0 .1 .1 .0 .1 .0 .1 in
     let l = (s .«reader_state» .ranges) in
-    flag-done _ sound _ _ (present-asks _ _ _ (sym (ap (λ (z : ExternalsPartitionReaderState). z .present) (c-partition-at .ensures)) ∙ not-false _ (c .before .before .before .if2 .left)) (c .meets .ensures ∙ (ap (λ (z : ExternalsPartitionReaderState). meets Reached z (c-record-of .result)) (c-partition-at .ensures) ∙ ap (λ (z : ExternalsPartitionRangeReaderState). meets Reached (partitionOf i (s .«reader_state» .«by_partitions»)) z) (c-record-of .ensures ∙ ap (λ (k : ℕ). recordOf i (rangeAt k (heldRanges (s .«reader_state»)))) (last-place (s .«reader_state» .ranges) (s .«reader_state» .len) (omega (arith, n, (sound-parts (s .«reader_state») sound) .0)) _ (c .before .before .last-at .ensures))))))
+    flag-done _ sound _ _ (present-asks _ _ _ (sym (ap (λ (z : ExternalsPartitionReaderState). z .present) (c-partition-at .ensures)) ∙ not-false _ (c .before .before .before .if2 .left)) (c .meets .ensures ∙ (ap (λ (z : ExternalsPartitionReaderState). meets Reached z (c-record-of .result)) (c-partition-at .ensures) ∙ ap (λ (z : ExternalsPartitionRangeReaderState). meets Reached (readerPartition i (s .«reader_state» .«by_partitions»)) z) (c-record-of .ensures ∙ ap (λ (k : ℕ). recordOf i (rangeAt k (heldRanges (s .«reader_state»)))) (last-place (s .«reader_state» .ranges) (s .«reader_state» .len) (omega (arith, n, (sound-parts (s .«reader_state») sound) .0)) _ (c .before .before .last-place .ensures))))))
 
 pub last-range-offset-reached-spec : {M : Type 1} → statement M
 last-range-offset-reached-spec =
@@ -67,7 +67,7 @@ last-range-offset-reached-spec =
     returns
     partition-at-requires
     returns-2
-    last-at-requires
+    last-place-requires
     record-of-requires
     meets-requires
     returns-3)

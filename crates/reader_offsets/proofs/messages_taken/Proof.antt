@@ -7,8 +7,8 @@ use lib.ListN.{length, length-map}
 use borrow.Author.Tests.{not-true, not-false, lt-leb, le-leb}
 use borrow.Author.Needs.{needs}
 use Rattle.messages_buffer.specs.declared.ExternalsPartitionRangeReaderState.{ExternalsPartitionRangeReaderState}
-use Rattle.externals_reader.specs.State.{heldRanges, stateNumber}
-use Rattle.reader_offsets.specs.Rules.{recordOf, rangeAt, withRecord, withHeld, onPlace, onRecord, withCount}
+use Rattle.reader_rules.specs.State.{heldRanges, stateNumber, maxRanges}
+use Rattle.reader_rules.specs.Offsets.{recordOf, rangeAt, withRecord, withHeld, onPlace, onRecord, withCount}
 use Rattle.reader_offsets.specs.Calls.{takenCall}
 use Rattle.reader_offsets.proofs.Numbers.{refused-5, refused-15, refused-16, done}
 use Rattle.reader_offsets.proofs.Changes.{present-inside}
@@ -66,7 +66,7 @@ with-record-of-requires c κs =
     let s = c-args .reader in
     let sound : stateNumber (s .«reader_state») ≡ 0 = sym (c .before .before .before .before .before .before .before .before .before .check-state .ensures) ∙ c .before .before .before .before .before .before .before .before .if1 .left in
     let i = c-args .par-id in
-    let n : length (s .«reader_state» .ranges) ≡ 16 = sym (length-map (s .«reader_state» .ranges) _) ∙ c .before .before .before .before .before .before .before .before .before .before .before .good .0 .1 .1 .1 .1 .1 .1 .1 .0 .1 .1 .0 .1 .0 .1 in
+    let n : length (s .«reader_state» .ranges) ≡ maxRanges = sym (length-map (s .«reader_state» .ranges) _) ∙ c .before .before .before .before .before .before .before .before .before .before .before .good .0 .1 .1 .1 .1 .1 .1 .1 .0 .1 .1 .0 .1 .0 .1 in
     (present-inside (s .«reader_state» .ranges) (s .«reader_state» .len) (omega (arith, n, (sound-parts (s .«reader_state») sound) .0)) i (c .before .before .before .before .before .before .place-of .result) (sym (ap (λ (z : ExternalsPartitionRangeReaderState). z .present) (c .before .before .before .before .before .record-of .ensures)) ∙ not-false _ (c .before .before .before .if2 .left)), (sound-parts (s .«reader_state») sound) .0)
 
 returns-4 : tie.Need-returns-4

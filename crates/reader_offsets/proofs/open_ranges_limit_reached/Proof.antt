@@ -3,7 +3,7 @@ use Prim.Native.Nat.{ℕ}
 use mathlib.Core.Path.{sym, ap, _∙_}
 use lib.Dec.{leb}
 use borrow.Author.Needs.{needs}
-use Rattle.externals_reader.specs.Calls.{settledNumber}
+use Rattle.reader_rules.specs.State.{settledNumber}
 use Rattle.reader_offsets.specs.Calls.{limitReachedCall}
 use Rattle.reader_offsets.proofs.Numbers.{flag-refused, flag-done, first-of-two, second-of-two}
 use Rattle.reader_offsets.proofs.open_ranges_limit_reached.Statement.{statement}

@@ -4,7 +4,7 @@ use native.Mathlib.Omega.{arith}
 use lib.ListN.{length, length-map}
 use borrow.Author.Tests.{lt-ltb, le-ltb}
 use borrow.Author.Needs.{needs}
-use Rattle.externals_reader.specs.State.{stateNumber}
+use Rattle.reader_rules.specs.State.{stateNumber, maxRanges}
 use Rattle.reader_offsets.specs.Calls.{retainCall}
 use Rattle.reader_offsets.proofs.Numbers.{refused-5, refused-15, done}
 use Rattle.reader_offsets.proofs.Changes.{mark-stays, mark-goes}
@@ -47,7 +47,7 @@ returns-3 c =
     let c-last-range = c .before .before .before .before .before .last-range in
     let s = c .before .before .before .before .before .before .before .before .before .before .before .args .reader in
     let sound : stateNumber (s .«reader_state») ≡ 0 = sym (c .before .before .before .before .before .before .before .before .before .check-state .ensures) ∙ c .before .before .before .before .before .before .before .before .if1 .left in
-    let n : length (s .«reader_state» .ranges) ≡ 16 = sym (length-map (s .«reader_state» .ranges) _) ∙ c .before .before .before .before .before .before .before .before .before .before .before .good .0 .1 .1 .1 .1 .1 .1 .1 .0 .1 .1 .0 .1 .0 .1 in
+    let n : length (s .«reader_state» .ranges) ≡ maxRanges = sym (length-map (s .«reader_state» .ranges) _) ∙ c .before .before .before .before .before .before .before .before .before .before .before .good .0 .1 .1 .1 .1 .1 .1 .1 .0 .1 .1 .0 .1 .0 .1 in
     done s _ _ _ sound (lt-ltb 0 (s .«reader_state» .len) (omega (arith, c-if2 .left))) refl _ (mark-stays s sound (omega (arith, n, (sound-parts (s .«reader_state») sound) .0)) (omega (arith, c-if2 .left)) (c-last-range .result) (c-last-range .ensures) _ (c .before .before .before .with-ranges .ensures) (c .if3 .taken))
 
 returns-4 : tie.Need-returns-4
@@ -58,7 +58,7 @@ returns-4 c =
     let c-with-ranges = c .before .before .before .with-ranges in
     let s = c .before .before .before .before .before .before .before .before .before .before .before .args .reader in
     let sound : stateNumber (s .«reader_state») ≡ 0 = sym (c .before .before .before .before .before .before .before .before .before .check-state .ensures) ∙ c .before .before .before .before .before .before .before .before .if1 .left in
-    let n : length (s .«reader_state» .ranges) ≡ 16 = sym (length-map (s .«reader_state» .ranges) _) ∙ c .before .before .before .before .before .before .before .before .before .before .before .good .0 .1 .1 .1 .1 .1 .1 .1 .0 .1 .1 .0 .1 .0 .1 in
+    let n : length (s .«reader_state» .ranges) ≡ maxRanges = sym (length-map (s .«reader_state» .ranges) _) ∙ c .before .before .before .before .before .before .before .before .before .before .before .good .0 .1 .1 .1 .1 .1 .1 .1 .0 .1 .1 .0 .1 .0 .1 in
     done s _ _ _ sound (lt-ltb 0 (s .«reader_state» .len) (omega (arith, c-if2 .left))) refl _ (mark-goes s sound (omega (arith, n, (sound-parts (s .«reader_state») sound) .0)) (omega (arith, c-if2 .left)) (c-last-range .result) (c-last-range .ensures) (c-with-ranges .result) (c-with-ranges .ensures) (c .if3 .left))
 
 pub retain-only-last-range-state-spec : {M : Type 1} → statement M

@@ -4,8 +4,8 @@ use native.Mathlib.Omega.{arith}
 use lib.ListN.{length, length-map}
 use borrow.Author.Tests.{lt-ltb, le-ltb}
 use borrow.Author.Needs.{needs}
-use Rattle.externals_reader.specs.State.{stateNumber}
-use Rattle.reader_offsets.specs.Rules.{fromPosition}
+use Rattle.reader_rules.specs.State.{stateNumber, maxRanges}
+use Rattle.reader_rules.specs.Offsets.{fromPosition}
 use Rattle.reader_offsets.specs.Calls.{setFromCall}
 use Rattle.reader_offsets.proofs.Numbers.{refused-5, refused-15, done}
 use Rattle.reader_offsets.proofs.Changes.{last-set}
@@ -50,7 +50,7 @@ returns-3 c =
     let c-last-range = c .before .before .before .last-range in
     let s = c .before .before .before .before .before .before .before .before .before .args .reader in
     let sound : stateNumber (s .«reader_state») ≡ 0 = sym (c .before .before .before .before .before .before .before .check-state .ensures) ∙ c .before .before .before .before .before .before .if1 .left in
-    let n : length (s .«reader_state» .ranges) ≡ 16 = sym (length-map (s .«reader_state» .ranges) _) ∙ c .before .before .before .before .before .before .before .before .before .good .0 .1 .1 .1 .1 .1 .1 .1 .0 .1 .1 .0 .1 .0 .1 in
+    let n : length (s .«reader_state» .ranges) ≡ maxRanges = sym (length-map (s .«reader_state» .ranges) _) ∙ c .before .before .before .before .before .before .before .before .before .good .0 .1 .1 .1 .1 .1 .1 .1 .0 .1 .1 .0 .1 .0 .1 in
     done s _ _ _ sound (lt-ltb 0 (s .«reader_state» .len) (omega (arith, c .before .before .before .before .if2 .left))) refl _ (c .with-range .ensures ∙ last-set s sound (omega (arith, n, (sound-parts (s .«reader_state») sound) .0)) fromPosition _ (c-last-range .result) refl (c-last-range .ensures))
 
 pub set-from-to-current-position-in-last-range-state-spec : {M : Type 1} → statement M

@@ -3,11 +3,11 @@ use mathlib.Core.Path.{_≡_, refl, sym, ap, _∙_}
 use native.Mathlib.Omega.{arith}
 use borrow.Author.Tests.{not-true, not-false, lt-ltb, le-ltb}
 use borrow.Author.Needs.{needs}
-use Rattle.range_reader.specs.declared.ExternalsRangeReaderState.{ExternalsRangeReaderState}
-use Rattle.externals_reader.specs.State.{stateNumber}
-use Rattle.reader_offsets.specs.Rules.{partitionOf, withPartition, withProcessedTo}
+use Rattle.range_rules.specs.declared.ExternalsRangeReaderState.{ExternalsRangeReaderState}
+use Rattle.reader_rules.specs.State.{stateNumber}
+use Rattle.reader_rules.specs.Offsets.{readerPartition, withPartition, withProcessedTo}
 use Rattle.reader_offsets.specs.Calls.{setProcessedCall}
-use Rattle.externals_reader.specs.declared.ExternalsPartitionReaderState.{ExternalsPartitionReaderState}
+use Rattle.reader_rules.specs.declared.ExternalsPartitionReaderState.{ExternalsPartitionReaderState}
 use Rattle.reader_offsets.proofs.Numbers.{refused-5, refused-15, done, both-or-no, first-no-no, both-yes}
 use Rattle.externals_reader.proofs.Sound.{sound-parts}
 use Rattle.reader_offsets.proofs.set_processed_to_current_position.Statement.{statement}
@@ -39,7 +39,7 @@ returns-3 c =
     let s = c-args .reader in
     let sound : stateNumber (s .«reader_state») ≡ 0 = sym (c .before .before .before .before .before .before .before .check-state .ensures) ∙ c .before .before .before .before .before .before .if1 .left in
     let i = c-args .par-id in
-    refused-15 s _ _ _ sound (both-or-no (partitionOf i (s .«reader_state» .«by_partitions») .present) _ (le-ltb 0 (s .«reader_state» .len) (omega (arith, c .if3 .taken))))
+    refused-15 s _ _ _ sound (both-or-no (readerPartition i (s .«reader_state» .«by_partitions») .present) _ (le-ltb 0 (s .«reader_state» .len) (omega (arith, c .if3 .taken))))
 
 last-range-requires : tie.Need-last-range-requires
 last-range-requires c κs =
@@ -59,7 +59,7 @@ returns-4 c =
     let s = c-args .reader in
     let sound : stateNumber (s .«reader_state») ≡ 0 = sym (c .before .before .before .before .before .before .before .before .before .before .check-state .ensures) ∙ c .before .before .before .before .before .before .before .before .before .if1 .left in
     let i = c-args .par-id in
-    done s _ _ _ sound (both-yes _ _ (sym (ap (λ (z : ExternalsPartitionReaderState). z .present) (c-partition-at .ensures)) ∙ not-false _ (c .before .before .before .before .before .if2 .left)) (lt-ltb 0 (s .«reader_state» .len) (omega (arith, c .before .before .before .if3 .left)))) refl _ (c .with-partition .ensures ∙ (ap (λ (z : ExternalsPartitionReaderState). withPartition i (withProcessedTo (c-last-range .result .«current_position») z) s) (c-partition-at .ensures) ∙ ap (λ (z : ExternalsRangeReaderState). withPartition i (withProcessedTo (z .«current_position») (partitionOf i (s .«reader_state» .«by_partitions»))) s) (c-last-range .ensures)))
+    done s _ _ _ sound (both-yes _ _ (sym (ap (λ (z : ExternalsPartitionReaderState). z .present) (c-partition-at .ensures)) ∙ not-false _ (c .before .before .before .before .before .if2 .left)) (lt-ltb 0 (s .«reader_state» .len) (omega (arith, c .before .before .before .if3 .left)))) refl _ (c .with-partition .ensures ∙ (ap (λ (z : ExternalsPartitionReaderState). withPartition i (withProcessedTo (c-last-range .result .«current_position») z) s) (c-partition-at .ensures) ∙ ap (λ (z : ExternalsRangeReaderState). withPartition i (withProcessedTo (z .«current_position») (readerPartition i (s .«reader_state» .«by_partitions»))) s) (c-last-range .ensures)))
 
 pub set-processed-to-current-position-spec : {M : Type 1} → statement M
 set-processed-to-current-position-spec =

@@ -1,4 +1,4 @@
-use Rattle.records.specs.Records.{anchorOf}
+use Rattle.records.specs.Records.{anchorIn}
 use borrow.Author.Needs.{needs}
 use Rattle.records.proofs.anchor_of.Statement.{statement}
 use Rattle.records.proofs.anchor_of.Tie as tie
@@ -13,7 +13,7 @@ u32-at-requires : tie.Need-u32-at-requires
 u32-at-requires c κs = search needs
 
 returns : tie.Need-returns
-unfolding anchorOf
+unfolding anchorIn
 returns c = rw (c .u32-at .ensures, c .before .u64-at .ensures, c .before .before .author-of .ensures)
 
 pub anchor-of-spec : {M : Type 1} → statement M

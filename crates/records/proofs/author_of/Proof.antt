@@ -7,6 +7,7 @@ use borrow.Author.Tests.{le-leb, lt-leb}
 use borrow.Author.Needs.{needs}
 use Rattle.records.proofs.author_of.Statement.{statement}
 use Rattle.records.proofs.author_of.Tie as tie
+use Rattle.cache_rules.specs.Rules.{authorBytes}
 
 slice-aggregate-copy-in : tie.Need-slice-aggregate-copy-in
 slice-aggregate-copy-in c = search needs
@@ -26,8 +27,8 @@ copy-in-requires c κs = search needs
 returns : tie.Need-returns
 unfolding authorOf
 returns c = let p = c .before .before .before .before .before .before .args .p .now in
-    let e = part-length p 12 32 (omega arith) in
-    rw (le-leb 44 _ (c .before .before .before .before .if1 .taken)) (c .before .copy-in .ensures ∙ (written-in 0 (part 12 32 p) _ (omega (arith, e)) ∙ sets-all _ (part 12 32 p) e))
+    let e = part-length p 12 authorBytes (omega arith) in
+    rw (le-leb 44 _ (c .before .before .before .before .if1 .taken)) (c .before .copy-in .ensures ∙ (written-in 0 (part 12 authorBytes p) _ (omega (arith, e)) ∙ sets-all _ (part 12 authorBytes p) e))
 
 returns-2 : tie.Need-returns-2
 unfolding authorOf

@@ -1,8 +1,8 @@
 use borrow.Author.Needs.{needs}
 use Rattle.records.specs.Records.{limitAt, limitsOf}
 use lib.Seq.{sets}
-use Rattle.externals_reader.specs.Each.{each}
-use Rattle.externals_reader.proofs.Each.{each-start, each-next, each-end}
+use Rattle.reader_rules.specs.Each.{each}
+use Rattle.reader_rules.proofs.Each.{each-start, each-next, each-end}
 use Prim.Native.Nat.{_-_, _≤_}
 use mathlib.Core.Path.{_≡_, refl}
 use native.Mathlib.Omega.{arith}

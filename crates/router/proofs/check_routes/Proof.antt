@@ -4,7 +4,7 @@ use Rattle.rows.proofs.Laws.{told-yes, told-no, rows-length}
 use lib.Dec.{leb, eqb}
 use mathlib.Core.Bool.{true}
 use mathlib.Core.Path.{_≡_}
-use Rattle.router.specs.Router.{routeRows, routesNumber, soundRoutes}
+use Rattle.router.specs.Router.{routeRows, routesNumber, soundRoutes, maxRoutes}
 use Prim.Native.Nat.{_/_, _%_}
 use lib.ListN.{length}
 use borrow.Author.Tests.{le-leb, lt-leb, eq-eqb, ne-eqb}
@@ -19,13 +19,13 @@ returns-2 : tie.Need-returns-2
 unfolding routesNumber soundRoutes
 returns-2 c =
     let a = c .before .before .before .args in
-    rw (eq-eqb (length (a .routes .now) % 34) 0 (c .before .if1 .left), rows-length 34 (length (a .routes .now) / 34) (a .routes .now), lt-leb (length (a .routes .now) / 34) 256 (c .if2 .taken))
+    rw (eq-eqb (length (a .routes .now) % 34) 0 (c .before .if1 .left), rows-length 34 (length (a .routes .now) / 34) (a .routes .now), lt-leb (length (a .routes .now) / 34) maxRoutes (c .if2 .taken))
 
 -- the first two tests are passed
-counted : (c : tie.Else2) → let l = c .before .before .before .args .routes .now in (eqb (length l % 34) 0 ≡ true) × (leb (length (routeRows l)) 256 ≡ true)
+counted : (c : tie.Else2) → let l = c .before .before .before .args .routes .now in (eqb (length l % 34) 0 ≡ true) × (leb (length (routeRows l)) maxRoutes ≡ true)
 counted c =
     let l = c .before .before .before .args .routes .now in
-    (eq-eqb (length l % 34) 0 (c .before .if1 .left), rw (rows-length 34 (length l / 34) l) (le-leb (length l / 34) 256 (c .if2 .left)))
+    (eq-eqb (length l % 34) 0 (c .before .if1 .left), rw (rows-length 34 (length l / 34) l) (le-leb (length l / 34) maxRoutes (c .if2 .left)))
 
 none-twice-requires : tie.Need-none-twice-requires
 none-twice-requires c κs = omega arith

@@ -1,4 +1,5 @@
--- Invariant: none twice among the routes left exactly if none twice among all. The rows behind a route are those that the next turns look at.
+-- Invariant: none twice among the routes left exactly if none twice among all. The rows behind a route are those that
+-- the next turns look at.
 use Rattle.rows.specs.Rows.{rows}
 use Rattle.router.specs.Router.{routeRows, noneTwice}
 use Rattle.router.proofs.Laws.{twice-next, twice-stop, twice-end}

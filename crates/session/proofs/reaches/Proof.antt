@@ -1,4 +1,4 @@
-use Rattle.session.specs.Steps.{reachesReader}
+use Rattle.session_rules.specs.Steps.{reachesReader}
 use borrow.Author.Tests.{ne-eqb}
 use borrow.Author.Needs.{needs}
 use Rattle.session.proofs.reaches.Statement.{statement}

@@ -1,12 +1,10 @@
-use Rattle.session.specs.Steps.{Lent, Outcome, readerOutcome, plainOutcome}
-use Rattle.session.specs.Steps.{Lent, readerOutcome, plainOutcome}
-use Rattle.session.proofs.Laws.{taken-length, stepped, not-taken, taken-reaches, taken-plain}
+use Rattle.session_rules.specs.Steps.{Lent, StepOutcome, readerOutcome, plainOutcome}
+use Rattle.session.proofs.Laws.{whole-same, taken-length, by-outcome, not-taken, taken-reaches, taken-plain, plain-leaves}
 use Rattle.rows.proofs.Laws.{told-yes, told-no}
 use Rattle.records.proofs.Laws.{rest-all}
-use Rattle.session_cache.specs.Said.{malformedSaid}
-use Prim.Native.Nat.{ℕ, _-_}
-use mathlib.Core.Path.{refl, sym, ap, _∙_}
-use mathlib.Core.List.{List}
+use Rattle.session_rules.specs.Said.{malformedSaid}
+use Prim.Native.Nat.{_-_}
+use mathlib.Core.Path.{refl, sym, _∙_}
 use lib.ListN.{length, take, drop}
 use borrow.Author.Needs.{needs}
 use Rattle.session.proofs.step.Statement.{statement}
@@ -28,11 +26,11 @@ returns c =
     let l : Lent = record { tables = a .tables .now; area = a .area .now; routes = a .routes .now; entries = a .entries .now } in
     let rec = a .«record» .now in
     let taken = told-no (c-is-taken .result) (c-is-taken .ensures) (c .before .before .before .before .if1 .taken) in
-    let o : Outcome = record { said = malformedSaid (a .session); reader = a .reader; lent = l } in
-    stepped l (a .session) (a .reader) rec (a .text .now) _ _ _ o (not-taken l (a .session) (a .reader) rec taken) (c .before .before .malformed .ensures, refl, refl)
+    let o : StepOutcome = record { said = malformedSaid (a .session); reader = a .reader; lent = l } in
+    by-outcome (record { session = a .session; reader = a .reader; lent = l; text = a .text .now }) rec _ o (whole-same l _ _ (a .reader) (a .reader) (c .before .before .malformed .ensures) refl) (not-taken l (a .session) (a .reader) rec taken)
 
-numbered-requires : tie.Need-numbered-requires
-numbered-requires c κs = search needs
+record-counted-requires : tie.Need-record-counted-requires
+record-counted-requires c κs = search needs
 
 u16-at-requires : tie.Need-u16-at-requires
 u16-at-requires c κs = search needs
@@ -75,10 +73,9 @@ same-length-6 : tie.Need-same-length-6
 same-length-6 c = search needs
 
 returns-2 : tie.Need-returns-2
-unfolding readerOutcome
 returns-2 c =
     let c-is-taken = c .before .before .before .before .before .before .before .before .before .before .before .before .before .before .before .before .before .is-taken in
-    let c-numbered = c .before .before .before .before .before .before .before .before .before .before .before .before .before .before .before .numbered in
+    let c-counted = c .before .before .before .before .before .before .before .before .before .before .before .before .before .before .before .record-counted in
     let c-u16-at = c .before .before .before .before .before .before .before .before .before .before .before .before .before .before .u16-at in
     let c-byte-at = c .before .before .before .before .before .before .before .before .before .before .before .before .byte-at in
     let c-step = c .before .before .before .before .step in
@@ -88,10 +85,9 @@ returns-2 c =
     let p = take (length rec - 2) (drop 2 rec) in
     let taken = told-yes (c-is-taken .result) (c-is-taken .ensures) (c .before .before .before .before .before .before .before .before .before .before .before .before .before .before .before .before .if1 .left) in
     let reaches = sym (c .before .before .before .before .before .before .before .before .before .before .before .reaches .ensures) ∙ c .before .before .before .before .before .before .before .before .before .before .if2 .taken in
-    let o = readerOutcome l (c-numbered .result) (a .reader) (c-u16-at .result) p in
-    let e = taken-reaches l (a .session) (c-numbered .result) (a .reader) rec p (c-u16-at .result) (c-byte-at .result) taken (c-numbered .ensures) (c-u16-at .ensures) (rest-all rec 2) (c-byte-at .ensures) reaches in
-    stepped l (a .session) (a .reader) rec (a .text .now) _ _ _ o e
-    (c-step .ensures .0, c-step .ensures .1, ap (λ (x : List ℕ). record { tables = l .tables; area = l .area; routes = l .routes; entries = x }) (c-step .ensures .2))
+    let o = readerOutcome l (c-counted .result) (a .reader) (c-u16-at .result) p in
+    let e = taken-reaches l (a .session) (c-counted .result) (a .reader) rec p (c-u16-at .result) (c-byte-at .result) taken (c-counted .ensures) (c-u16-at .ensures) (rest-all rec 2) (c-byte-at .ensures) reaches in
+    by-outcome (record { session = a .session; reader = a .reader; lent = l; text = a .text .now }) rec _ o (c-step .ensures) e
 
 plain-requires : tie.Need-plain-requires
 plain-requires c κs = search needs
@@ -109,10 +105,9 @@ same-length-10 : tie.Need-same-length-10
 same-length-10 c = search needs
 
 returns-3 : tie.Need-returns-3
-unfolding plainOutcome
 returns-3 c =
     let c-is-taken = c .before .before .before .before .before .before .before .before .before .before .before .before .before .before .before .before .before .before .before .before .is-taken in
-    let c-numbered = c .before .before .before .before .before .before .before .before .before .before .before .before .before .before .before .before .before .before .numbered in
+    let c-counted = c .before .before .before .before .before .before .before .before .before .before .before .before .before .before .before .before .before .before .record-counted in
     let c-u16-at = c .before .before .before .before .before .before .before .before .before .before .before .before .before .before .before .before .before .u16-at in
     let c-byte-at = c .before .before .before .before .before .before .before .before .before .before .before .before .before .before .before .byte-at in
     let c-plain = c .before .before .before .before .before .before .before .before .plain in
@@ -122,10 +117,9 @@ returns-3 c =
     let p = take (length rec - 2) (drop 2 rec) in
     let taken = told-yes (c-is-taken .result) (c-is-taken .ensures) (c .before .before .before .before .before .before .before .before .before .before .before .before .before .before .before .before .before .before .before .if1 .left) in
     let reaches = sym (c .before .before .before .before .before .before .before .before .before .before .before .before .before .before .reaches .ensures) ∙ c .before .before .before .before .before .before .before .before .before .before .before .before .before .if2 .left in
-    let o = plainOutcome l (c-numbered .result) (a .reader) (c-u16-at .result) p in
-    let e = taken-plain l (a .session) (c-numbered .result) (a .reader) rec p (c-u16-at .result) (c-byte-at .result) taken (c-numbered .ensures) (c-u16-at .ensures) (rest-all rec 2) (c-byte-at .ensures) reaches in
-    stepped l (a .session) (a .reader) rec (a .text .now) _ _ _ o e
-    (c-plain .ensures .0, refl, rw (c-plain .ensures .1, c-plain .ensures .2, c-plain .ensures .3))
+    let o = plainOutcome l (c-counted .result) (a .reader) (c-u16-at .result) p in
+    let e = taken-plain l (a .session) (c-counted .result) (a .reader) rec p (c-u16-at .result) (c-byte-at .result) taken (c-counted .ensures) (c-u16-at .ensures) (rest-all rec 2) (c-byte-at .ensures) reaches in
+    by-outcome (record { session = a .session; reader = a .reader; lent = l; text = a .text .now }) rec _ o (plain-leaves l (c-counted .result) (a .reader) (c-u16-at .result) p (a .text .now) _ (c-plain .ensures)) e
 
 pub step-spec : {M : Type 1} → statement M
 step-spec =
@@ -135,7 +129,7 @@ step-spec =
     malformed-requires
     same-length
     returns
-    numbered-requires
+    record-counted-requires
     u16-at-requires
     sub-p
     part-p-start

@@ -1,4 +1,5 @@
--- `shard_ident::same_above_tag` meets its contract: equal quotients past the tag are equal bits above it (`above-tag-shift`).
+-- `shard_ident::same_above_tag` meets its contract: equal quotients past the tag are equal bits above it
+-- (`above-tag-shift`).
 use mathlib.Core.Path.{sym}
 use native.Mathlib.Omega.{arith}
 use lib.Count.{trailing-le}

@@ -1,5 +1,5 @@
 use Rattle.anchors_cache.specs.declared.CachedAnchor.{CachedAnchor}
-use Rattle.anchors_cache.specs.Rules.{lastOf}
+use Rattle.cache_rules.specs.Rules.{lastOf}
 use Rattle.anchors_cache.proofs.Laws.{anchors-none, last-anchor}
 use Prim.Native.Nat.{_-_}
 use mathlib.Core.Path.{ap}

@@ -1,5 +1,5 @@
 use Rattle.anchors_cache.specs.declared.CachedAnchor.{CachedAnchor}
-use Rattle.anchors_cache.specs.Rules.{soundRow}
+use Rattle.cache_rules.specs.Rules.{soundRow, maxAnchors, maxAnchorMessages}
 use Rattle.anchors_cache.specs.Tables.{anchors, anchorAt}
 use Rattle.anchors_cache.specs.Calls.{soundTotal, soundAnchor}
 use Rattle.anchors_cache.proofs.Asked.{row-count, row-sound, sound-next, sound-stop, sound-end}
@@ -13,7 +13,7 @@ use Rattle.anchors_cache.proofs.questions.sound_total.Statement.{statem
 use Rattle.anchors_cache.proofs.questions.sound_total.Tie as tie
 
 abbrev Inv-loop : tie.InvT-loop
-Inv-loop tables first len at₀ left₀ low₀ sum₀ at left low sum = (at + left ≤ 32) × (sum + 512 * left ≤ 16384) × (soundTotal low sum (anchors at left tables) ≡ soundTotal 0 0 (anchors first len tables))
+Inv-loop tables first len at₀ left₀ low₀ sum₀ at left low sum = (at + left ≤ maxAnchors) × (sum + maxAnchorMessages * left ≤ maxAnchorMessages * maxAnchors) × (soundTotal low sum (anchors at left tables) ≡ soundTotal 0 0 (anchors first len tables))
 
 abbrev μ-loop : tie.MeasureT-loop
 μ-loop tables first len at₀ left₀ low₀ sum₀ at left low sum = left

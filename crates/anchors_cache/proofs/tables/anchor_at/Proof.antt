@@ -5,6 +5,7 @@ use native.Mathlib.Omega.{arith}
 use borrow.Author.Needs.{needs}
 use Rattle.anchors_cache.proofs.tables.anchor_at.Statement.{statement}
 use Rattle.anchors_cache.proofs.tables.anchor_at.Tie as tie
+use Rattle.anchors_cache.specs.Tables.{historyBytes}
 
 mul-at : tie.Need-mul-at
 mul-at c = search needs
@@ -43,7 +44,7 @@ returns : tie.Need-returns
 returns c =
     let a = c .before .before .before .before .before .before .args in
     let l = a .tables .now in
-    let at = 13312 + 50 * a .i in (
+    let at = historyBytes + 50 * a .i in (
       rw (
         c .before .before .before .u32-at .ensures ∙ row-num l at 50 0 4 (omega arith) (omega arith),
         c .before .before .u64-at .ensures ∙ row-num l at 50 4 8 (omega arith) (omega arith),

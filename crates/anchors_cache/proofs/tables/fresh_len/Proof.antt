@@ -1,5 +1,5 @@
 use Rattle.anchors_cache.specs.declared.AnchorInfo.{AnchorInfo}
-use Rattle.anchors_cache.specs.Rules.{dropStale}
+use Rattle.cache_rules.specs.Rules.{dropStale, maxHistory}
 use Rattle.anchors_cache.specs.Tables.{infos, infoAt}
 use Rattle.anchors_cache.proofs.Laws.{infos-length, stale-more, stale-stop, stale-few}
 use borrow.Author.Needs.{needs}
@@ -11,7 +11,7 @@ use Rattle.anchors_cache.proofs.tables.fresh_len.Statement.{statement}
 use Rattle.anchors_cache.proofs.tables.fresh_len.Tie as tie
 
 abbrev Inv-loop : tie.InvT-loop
-Inv-loop tables first len ct at₀ fresh₀ at fresh = (at + fresh ≤ 256) × (dropStale (ct .0) (infos at fresh tables) ≡ dropStale (ct .0) (infos first len tables))
+Inv-loop tables first len ct at₀ fresh₀ at fresh = (at + fresh ≤ maxHistory) × (dropStale (ct .0) (infos at fresh tables) ≡ dropStale (ct .0) (infos first len tables))
 
 abbrev μ-loop : tie.MeasureT-loop
 μ-loop tables first len ct at₀ fresh₀ at fresh = fresh

@@ -1,5 +1,5 @@
 use Rattle.anchors_cache.specs.declared.AnchorInfo.{AnchorInfo}
-use Rattle.anchors_cache.specs.Rules.{trimHistory}
+use Rattle.cache_rules.specs.Rules.{trimHistory}
 use Rattle.anchors_cache.specs.Tables.{infos, infoAt}
 use Rattle.anchors_cache.proofs.Laws.{infos-length, history-more, history-stop, history-few}
 use borrow.Author.Needs.{needs}

@@ -1,5 +1,5 @@
 use Rattle.anchors_cache.specs.declared.CachedAnchor.{CachedAnchor}
-use Rattle.anchors_cache.specs.Rules.{trimBack}
+use Rattle.cache_rules.specs.Rules.{trimBack}
 use Rattle.anchors_cache.specs.Tables.{anchors, anchorAt}
 use Rattle.anchors_cache.specs.Windows.{rowTime}
 use Rattle.anchors_cache.proofs.Laws.{anchors-length, kept-more, kept-stop, kept-none}

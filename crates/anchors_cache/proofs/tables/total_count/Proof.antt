@@ -1,5 +1,5 @@
 use Rattle.anchors_cache.specs.declared.CachedAnchor.{CachedAnchor}
-use Rattle.anchors_cache.specs.Rules.{total}
+use Rattle.cache_rules.specs.Rules.{total, maxAnchors}
 use Rattle.anchors_cache.specs.Tables.{anchors}
 use Rattle.anchors_cache.proofs.Laws.{total-more, total-none}
 use borrow.Author.Needs.{needs}
@@ -10,7 +10,7 @@ use Rattle.anchors_cache.proofs.tables.total_count.Statement.{statement
 use Rattle.anchors_cache.proofs.tables.total_count.Tie as tie
 
 abbrev Inv-loop : tie.InvT-loop
-Inv-loop tables first len at₀ left₀ sum₀ at left sum = (at + left ≤ 32) × (sum + total (anchors at left tables) ≡ total (anchors first len tables)) × (sum + 65535 * left ≤ 65535 * len)
+Inv-loop tables first len at₀ left₀ sum₀ at left sum = (at + left ≤ maxAnchors) × (sum + total (anchors at left tables) ≡ total (anchors first len tables)) × (sum + 65535 * left ≤ 65535 * len)
 
 abbrev μ-loop : tie.MeasureT-loop
 μ-loop tables first len at₀ left₀ sum₀ at left sum = left

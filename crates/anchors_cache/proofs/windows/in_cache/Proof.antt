@@ -9,6 +9,7 @@ use lib.ListN.{length}
 use borrow.Author.Needs.{needs}
 use Rattle.anchors_cache.proofs.windows.in_cache.Statement.{statement}
 use Rattle.anchors_cache.proofs.windows.in_cache.Tie as tie
+use Rattle.anchors_cache.specs.Tables.{historyBytes, anchorBytes}
 
 mul-append : tie.Need-mul-append
 mul-append c = search needs
@@ -55,8 +56,8 @@ returns c =
     let n = length (a .area .now) in
     let k = length (a .messages .now) in
     let w : length (a .row .now) ≡ 50 = c .before .before .before .before .before .before .before .before .before .before .before .before .before .before .pre .2 in
-    let p = placed-fits 13312 (50 * first) (50 * len) 50 1600 (length (a .tables .now)) (omega arith) (omega arith) (omega arith) first in
-    let q = append-fits 13312 (50 * first) (50 * len) 50 1600 (length (a .tables .now)) (omega arith) (omega arith) (omega arith) (a .row .now) (a .tables .now) w refl in
+    let p = placed-fits historyBytes (50 * first) (50 * len) 50 anchorBytes (length (a .tables .now)) (omega arith) (omega arith) (omega arith) first in
+    let q = append-fits historyBytes (50 * first) (50 * len) 50 anchorBytes (length (a .tables .now)) (omega arith) (omega arith) (omega arith) (a .row .now) (a .tables .now) w refl in
     let u = placed-fits 0 (33 * base) (33 * a .used) k n n (omega arith) (omega arith) (omega arith) base in
     let v = append-fits 0 (33 * base) (33 * a .used) k n n (omega arith) (omega arith) (omega arith) (a .messages .now) (a .area .now) refl refl in (
       rw (

@@ -9,6 +9,7 @@ use lib.ListN.{length}
 use borrow.Author.Needs.{needs}
 use Rattle.anchors_cache.proofs.windows.in_history.Statement.{statement}
 use Rattle.anchors_cache.proofs.windows.in_history.Tie as tie
+use Rattle.anchors_cache.specs.Tables.{historyBytes}
 
 mul-append : tie.Need-mul-append
 mul-append c = search needs
@@ -36,8 +37,8 @@ returns c =
     let w : length (a .row .now) ≡ 52 = c .before .before .before .before .before .before .before .pre .1 in
     let hf = a .c .«history_first» in
     let hl = a .c .«history_len» in
-    let p = placed-fits 0 (52 * hf) (52 * hl) 52 13312 (length (a .tables .now)) (omega arith) (omega arith) (omega arith) hf in
-    let q = append-fits 0 (52 * hf) (52 * hl) 52 13312 (length (a .tables .now)) (omega arith) (omega arith) (omega arith) (a .row .now) (a .tables .now) w refl in
+    let p = placed-fits 0 (52 * hf) (52 * hl) 52 historyBytes (length (a .tables .now)) (omega arith) (omega arith) (omega arith) hf in
+    let q = append-fits 0 (52 * hf) (52 * hl) 52 historyBytes (length (a .tables .now)) (omega arith) (omega arith) (omega arith) (a .row .now) (a .tables .now) w refl in
     (rw (c .placed .ensures ∙ (ap (λ (x : Appended). placedAt x hf) (rw w at (c-append .ensures .0)) ∙ p)), c-append .ensures .1 ∙ q)
 
 pub in-history-spec : {M : Type 1} → statement M

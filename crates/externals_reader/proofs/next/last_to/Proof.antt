@@ -1,5 +1,5 @@
 use Rattle.externals_reader.proofs.Laws.{last-none, last-some}
-use Rattle.range_reader.specs.Rules.{noKey}
+use Rattle.range_rules.specs.Rules.{noKey}
 use Prim.Native.Nat.{_-_}
 use Rattle.externals_reader.proofs.next.last_to.Statement.{statement}
 use Rattle.externals_reader.proofs.next.last_to.Tie as tie

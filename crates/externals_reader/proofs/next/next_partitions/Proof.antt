@@ -1,9 +1,9 @@
 use mathlib.Core.List.{map}
-use Rattle.externals_reader.specs.Each.{each}
-use Rattle.externals_reader.proofs.Each.{each-start, each-next, each-end, each-map}
-use Rattle.externals_reader.specs.State.{noReaderPartition}
+use Rattle.reader_rules.specs.Each.{each}
+use Rattle.reader_rules.proofs.Each.{each-start, each-next, each-end, each-map}
+use Rattle.reader_rules.specs.State.{noReaderPartition}
 use lib.Seq.{sets, take-all}
-use Rattle.externals_reader.specs.Rules.{nextPartition}
+use Rattle.reader_rules.specs.Rules.{nextPartition}
 use borrow.Author.Needs.{needs}
 use Prim.Native.Nat.{ℕ, _-_, _≤_}
 use mathlib.Core.Path.{_≡_, refl, ap, _∙_}
@@ -17,9 +17,6 @@ Inv-loop parts r₀ i₀ r i = (i ≤ 8) × (r ≡ sets r₀ 0 (each i (λ (j : 
 
 abbrev μ-loop : tie.MeasureT-loop
 μ-loop parts r₀ i₀ r i = 8 - i
-
-no-partition-requires : tie.Need-no-partition-requires Inv-loop μ-loop
-no-partition-requires c κs = search needs
 
 loop-holds : tie.Need-loop-holds Inv-loop μ-loop
 loop-holds c = (search needs, each-start _ _)
@@ -47,13 +44,13 @@ loop-less c = search needs
 
 loop-again : tie.Need-loop-again Inv-loop μ-loop
 loop-again c =
-    let ps = c .before .before .before .before .before .args .t1 in
+    let ps = c .before .before .before .before .args .t1 in
     let l = c .before .before .before .loop in
     (omega arith, each-next (λ (j : ℕ). nextPartition (getD ps j noReaderPartition)) _ (l .i) (l .r) _ (l .inv .1) (c .next-partition .ensures))
 
 returns : tie.Need-returns Inv-loop μ-loop
 returns c =
-    let ps = c .before .before .before .args .t1 in
+    let ps = c .before .before .args .t1 in
     let l = c .before .loop in
     let n : length ps ≡ 8 = search needs in
     let e : l .i ≡ 8 = omega arith in
@@ -65,7 +62,6 @@ next-partitions-spec =
     (tie.spec
     Inv-loop
     μ-loop
-    no-partition-requires
     loop-holds
     mul-p
     array-copy-out-p

@@ -1,4 +1,4 @@
-use Rattle.externals_reader.specs.Rules.{nextRange}
+use Rattle.reader_rules.specs.Rules.{nextRange}
 use Prim.Native.Nat.{_-_}
 use mathlib.Core.Path.{_∙_}
 use borrow.Author.Needs.{needs}

@@ -1,6 +1,5 @@
 use Rattle.externals_reader.proofs.Laws.{no-next-refused, no-next-unread, no-next-refill, no-next-settings, no-next-limit, next-by-seqno}
-use Rattle.externals_reader.specs.Rules.{continues}
-use Rattle.externals_reader.specs.Locals.{readOf}
+use Rattle.reader_rules.specs.Rules.{continues, readOf}
 use Prim.Native.Nat.{_-_}
 use mathlib.Core.Path.{ap}
 use borrow.Author.Tests.{not-true, not-false}

@@ -1,5 +1,5 @@
-use Rattle.range_reader.proofs.Numbers.{first-no, first-yes, first-alone}
-use Rattle.externals_reader.specs.Calls.{readerNumber}
+use Rattle.messages_buffer.proofs.Laws.{first-no, first-yes, first-alone}
+use Rattle.reader_rules.specs.State.{readerNumber}
 use Rattle.externals_reader.proofs.Sound.{by-pieces}
 use Prim.Native.Nat.{_-_}
 use mathlib.Core.Path.{sym, _∙_}

@@ -1,4 +1,4 @@
-use Rattle.range_reader.proofs.Numbers.{first-no, first-yes, first-alone}
+use Rattle.messages_buffer.proofs.Laws.{first-no, first-yes, first-alone}
 use Prim.Native.Nat.{_-_}
 use mathlib.Core.Path.{sym, _∙_}
 use borrow.Author.Needs.{needs}

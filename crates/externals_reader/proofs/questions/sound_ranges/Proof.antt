@@ -7,12 +7,12 @@ use borrow.Author.Tests.{not-true, not-false}
 use borrow.Author.Needs.{needs}
 use Rattle.rows.specs.Rows.{part}
 use Rattle.externals_reader.proofs.Sound.{sound-fail, sound-next, sound-end}
-use Rattle.externals_reader.specs.State.{soundFrom}
+use Rattle.reader_rules.specs.State.{soundRangesFrom, maxRanges}
 use Rattle.externals_reader.proofs.questions.sound_ranges.Statement.{statement}
 use Rattle.externals_reader.proofs.questions.sound_ranges.Tie as tie
 
 abbrev Inv-loop : tie.InvT-loop
-Inv-loop len ranges low₀ at₀ left₀ low at left = (at + left ≤ 16) × (soundFrom low (part at left ranges) ≡ soundFrom 0 (part 0 len ranges))
+Inv-loop len ranges low₀ at₀ left₀ low at left = (at + left ≤ maxRanges) × (soundRangesFrom low (part at left ranges) ≡ soundRangesFrom 0 (part 0 len ranges))
 
 abbrev μ-loop : tie.MeasureT-loop
 μ-loop len ranges low₀ at₀ left₀ low at left = left
@@ -33,7 +33,7 @@ returns : tie.Need-returns Inv-loop μ-loop
 returns c =
     let l = c .before .before .before .before .loop in
     let xs = c .before .before .before .before .before .args .t1 in
-    let n : length xs ≡ 16 = search needs in
+    let n : length xs ≡ maxRanges = search needs in
     sym (sym (l .inv .1) ∙ sound-fail xs (l .low) (l .at) (l .left) (c .before .before .before .loop-test .taken) (omega arith) (sym (c .before .is-sound .ensures) ∙ not-true _ (c .if1 .taken)))
 
 cast-low : tie.Need-cast-low Inv-loop μ-loop
@@ -55,7 +55,7 @@ loop-again : tie.Need-loop-again Inv-loop μ-loop
 loop-again c =
     let l = c .before .before .before .before .before .loop in
     let xs = c .before .before .before .before .before .before .args .t1 in
-    let n : length xs ≡ 16 = search needs in
+    let n : length xs ≡ maxRanges = search needs in
     (omega arith, sound-next xs (l .low) (l .at) (l .left) (c .before .before .before .before .loop-test .taken) (omega arith) (sym (c .before .before .is-sound .ensures) ∙ not-false _ (c .before .if1 .left)) ∙ l .inv .1)
 
 returns-2 : tie.Need-returns-2 Inv-loop μ-loop

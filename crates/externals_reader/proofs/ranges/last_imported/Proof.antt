@@ -1,10 +1,9 @@
 use Rattle.externals_reader.specs.Calls.{endOf}
-use Rattle.anchors_cache.specs.Calls.{anchorInfo}
-use Rattle.anchors_cache.specs.Tables.{infoAt}
+use Rattle.anchors_cache.specs.Calls.{anchorInfo, infoRowAt}
+use Rattle.anchors_cache.specs.Tables.{infoAt, tablesBytes}
 use Rattle.anchors_cache.specs.declared.AnchorInfo.{AnchorInfo}
 use Rattle.anchors_cache.specs.declared.FoundInfo.the-variants as found
-use Rattle.anchors_cache.specs.Rules.{lastOf}
-use Rattle.anchors_cache.specs.Calls.{infoRowAt}
+use Rattle.cache_rules.specs.Rules.{lastOf, maxHistory}
 use Rattle.anchors_cache.proofs.Laws.{infos-none, last-info}
 use denote.Ref.{now}
 use Prim.Native.Nat.{ℕ, suc, zero, _+_, _-_, _≤_, _<_}
@@ -39,9 +38,9 @@ positive : (n : ℕ) → (n ≡ 0 → ⊥) → 0 < n
 positive zero h = absurd (h refl)
 positive (suc k) h = omega arith
 
-in-table : (i : ℕ) (l : List ℕ) → i < 256 → 14912 ≤ length l → infoRowAt i l ≡ anchorInfo (infoAt i l)
+in-table : (i : ℕ) (l : List ℕ) → i < maxHistory → tablesBytes ≤ length l → infoRowAt i l ≡ anchorInfo (infoAt i l)
 unfolding infoRowAt
-in-table i l h k = rw (lt-ltb i 256 h, le-leb 14912 (length l) k)
+in-table i l h k = rw (lt-ltb i maxHistory h, le-leb tablesBytes (length l) k)
 
 returns-2 : tie.Need-returns-2
 returns-2 c =

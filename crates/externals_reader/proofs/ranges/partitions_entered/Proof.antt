@@ -1,8 +1,8 @@
-use Rattle.externals_reader.specs.Each.{each}
-use Rattle.externals_reader.proofs.Each.{each-start, each-next, each-end}
-use Rattle.externals_reader.specs.State.{noReaderPartition}
+use Rattle.reader_rules.specs.Each.{each}
+use Rattle.reader_rules.proofs.Each.{each-start, each-next, each-end}
+use Rattle.reader_rules.specs.State.{noReaderPartition}
 use lib.Seq.{sets}
-use Rattle.externals_reader.specs.Rules.{withDefault, partitionsEntered}
+use Rattle.reader_rules.specs.Rules.{withDefault, partitionsEntered}
 use borrow.Author.Needs.{needs}
 use Prim.Native.Nat.{ℕ, _-_, _≤_}
 use mathlib.Core.Path.{_≡_}

@@ -1,8 +1,8 @@
-use Rattle.externals_reader.specs.Each.{each}
-use Rattle.externals_reader.proofs.Each.{each-start, each-next, each-map}
-use Rattle.externals_reader.specs.State.{noRange}
+use Rattle.reader_rules.specs.Each.{each}
+use Rattle.reader_rules.proofs.Each.{each-start, each-next, each-map}
+use Rattle.reader_rules.specs.State.{noRange, maxRanges}
 use lib.Seq.{sets}
-use Rattle.externals_reader.specs.Rules.{rangeEntered}
+use Rattle.reader_rules.specs.Rules.{rangeEntered}
 use borrow.Author.Needs.{needs}
 use Prim.Native.Nat.{ℕ, _-_, _≤_}
 use mathlib.Core.Path.{_≡_, ap, _∙_}
@@ -52,7 +52,7 @@ returns c =
     let c-args = c .before .before .args in
     let ranges = c-args .t1 in
     let l = c .before .loop in
-    let n : length ranges ≡ 16 = search needs in
+    let n : length ranges ≡ maxRanges = search needs in
     let e : l .i ≡ c-args .len = omega arith in
     l .inv .1 ∙ ap (sets ranges 0) (ap (λ (k : ℕ). each k (λ (j : ℕ). rangeEntered (getD ranges j noRange))) e ∙ each-map rangeEntered noRange (c-args .len) ranges (omega arith))
 

@@ -1,6 +1,5 @@
-use Rattle.externals_reader.proofs.Laws.{or-later, or-none}
-use Rattle.rows.proofs.Laws.{pick-yes, pick-no}
-use Rattle.externals_reader.specs.Rules.{withDefault}
+use Rattle.rows.proofs.Laws.{or-later, or-none, pick-yes, pick-no}
+use Rattle.reader_rules.specs.Rules.{withDefault}
 use Prim.Native.Nat.{_-_}
 use mathlib.Core.Path.{sym}
 use borrow.Author.Tests.{eq-eqb, ne-eqb}

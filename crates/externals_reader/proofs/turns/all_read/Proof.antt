@@ -1,4 +1,4 @@
-use Rattle.externals_reader.proofs.Laws.{no-later, yes-later}
+use Rattle.rows.proofs.Laws.{no-later, yes-later}
 use Prim.Native.Nat.{_-_}
 use borrow.Author.Tests.{not-true, not-false}
 use Rattle.externals_reader.proofs.turns.all_read.Statement.{statement}

@@ -1,5 +1,5 @@
 use Rattle.externals_reader.proofs.Laws.{before-stop, before-next, before-end}
-use Rattle.externals_reader.specs.Rules.{beforeSkipOffsets}
+use Rattle.reader_rules.specs.Rules.{beforeSkipOffsets}
 use borrow.Author.Needs.{needs}
 use Prim.Native.Nat.{_-_, _≤_}
 use mathlib.Core.Path.{_≡_, refl, sym, _∙_}

@@ -1,4 +1,4 @@
-use Rattle.externals_reader.specs.Rules.{modeFor}
+use Rattle.reader_rules.specs.Rules.{modeFor}
 use Prim.Native.Nat.{_-_}
 use borrow.Author.Tests.{eq-eqb, ne-eqb}
 use Rattle.externals_reader.proofs.turns.mode_for.Statement.{statement}

@@ -1,7 +1,7 @@
 use Rattle.externals_reader.proofs.TurnLaws.{window-fits, Turning, turning-start, turning-next, turning-last, turning-length, turning-ready, turning-slot, left-some, next-room, next-ready, all-done, next-done, turn-length}
-use Rattle.externals_reader.specs.State.{noRange}
+use Rattle.reader_rules.specs.State.{noRange, maxRanges}
 use Rattle.externals_reader.specs.Calls.{windowRead}
-use Rattle.externals_reader.specs.Locals.{nothingRead, readOf}
+use Rattle.reader_rules.specs.Rules.{nothingRead, readOf}
 use denote.Ref.{now}
 use borrow.Author.Needs.{needs}
 use Prim.Native.Nat.{ℕ, _+_, _-_, _<_}
@@ -13,7 +13,7 @@ use Rattle.externals_reader.proofs.turns.ranges_read.Statement.{stateme
 use Rattle.externals_reader.proofs.turns.ranges_read.Tie as tie
 
 abbrev Inv-loop : tie.InvT-loop
-Inv-loop tables area t routes x len write out₀ ranges₀ s₀ at₀ left₀ out ranges s at left = (length ranges ≡ 16) × Turning (windowRead tables area t routes x) (window-fits tables area t routes x) x write (readOf nothingRead ranges₀ len) out₀ (readOf s ranges len) at left out
+Inv-loop tables area t routes x len write out₀ ranges₀ s₀ at₀ left₀ out ranges s at left = (length ranges ≡ maxRanges) × Turning (windowRead tables area t routes x) (window-fits tables area t routes x) x write (readOf nothingRead ranges₀ len) out₀ (readOf s ranges len) at left out
 
 abbrev μ-loop : tie.MeasureT-loop
 μ-loop tables area t routes x len write out₀ ranges₀ s₀ at₀ left₀ out ranges s at left = left
@@ -24,7 +24,7 @@ nothing-read-requires c κs = search needs
 loop-holds : tie.Need-loop-holds Inv-loop μ-loop
 loop-holds c =
     let c-args = c .before .before .before .before .before .args in
-    let n : length (c-args .start) ≡ 16 = search needs in
+    let n : length (c-args .start) ≡ maxRanges = search needs in
     (n, rw (c .nothing-read .ensures) (turning-start (windowRead (now (c-args .tables)) (now (c-args .area)) (c-args .t) (now (c-args .routes)) (c-args .x)) (window-fits (now (c-args .tables)) (now (c-args .area)) (c-args .t) (now (c-args .routes)) (c-args .x)) (c-args .x) (c-args .write) (readOf nothingRead (c-args .start) (c-args .len)) (now (c-args .out)) (c .before .before .before .before .before .pre)))
 
 turns-over-requires : tie.Need-turns-over-requires Inv-loop μ-loop
@@ -85,19 +85,16 @@ array-copy-out-last c = omega (arith, c .before .before .before .loop .inv .0, c
 wants-next-requires : tie.Need-wants-next-requires Inv-loop μ-loop
 wants-next-requires c κs = search needs
 
-ranges-so-far-requires : tie.Need-ranges-so-far-requires Inv-loop μ-loop
-ranges-so-far-requires c κs = search needs
-
 same-length : tie.Need-same-length Inv-loop μ-loop
 same-length c =
-    let c-args = c .before .before .before .before .before .before .before .before .before .before .before .before .before .args in
-    turning-length (windowRead (now (c-args .tables)) (now (c-args .area)) (c-args .t) (now (c-args .routes)) (c-args .x)) (window-fits (now (c-args .tables)) (now (c-args .area)) (c-args .t) (now (c-args .routes)) (c-args .x)) (c-args .x) (c-args .write) (readOf nothingRead (c-args .start) (c-args .len)) (now (c-args .out)) _ _ _ _ (c .before .before .before .before .before .before .before .loop .inv .1)
+    let c-args = c .before .before .before .before .before .before .before .before .before .before .before .before .args in
+    turning-length (windowRead (now (c-args .tables)) (now (c-args .area)) (c-args .t) (now (c-args .routes)) (c-args .x)) (window-fits (now (c-args .tables)) (now (c-args .area)) (c-args .t) (now (c-args .routes)) (c-args .x)) (c-args .x) (c-args .write) (readOf nothingRead (c-args .start) (c-args .len)) (now (c-args .out)) _ _ _ _ (c .before .before .before .before .before .before .loop .inv .1)
 
 returns : tie.Need-returns Inv-loop μ-loop
 returns c =
-    let c-args = c .before .before .before .before .before .before .before .before .before .before .before .before .before .args in
-    let c-loop = c .before .before .before .before .before .before .before .loop in
-    rw (c .ranges-so-far .ensures) (all-done (windowRead (now (c-args .tables)) (now (c-args .area)) (c-args .t) (now (c-args .routes)) (c-args .x)) (window-fits (now (c-args .tables)) (now (c-args .area)) (c-args .t) (now (c-args .routes)) (c-args .x)) (c-args .x) (c-args .write) (readOf nothingRead (c-args .start) (c-args .len)) (now (c-args .out)) (c .before .before .before .before .before .before .before .before .before .before .before .before .before .pre) (c-loop .s) (c-loop .ranges) (c-args .len) _ (turning-last (windowRead (now (c-args .tables)) (now (c-args .area)) (c-args .t) (now (c-args .routes)) (c-args .x)) (window-fits (now (c-args .tables)) (now (c-args .area)) (c-args .t) (now (c-args .routes)) (c-args .x)) (c-args .x) (c-args .write) (readOf nothingRead (c-args .start) (c-args .len)) (now (c-args .out)) _ _ _ _ (c-loop .inv .1) (sym (c .before .before .before .before .before .before .turns-over .ensures) ∙ c .before .before .before .before .before .if1 .taken)) (sym (c .before .before .wants-next .ensures (c-loop .ranges) (ap (λ (k : ℕ). getD (c-loop .ranges) k noRange) (sym (c .before .before .before .before .last-place .ensures)))) ∙ not-true _ (c .before .if2 .taken)))
+    let c-args = c .before .before .before .before .before .before .before .before .before .before .before .before .args in
+    let c-loop = c .before .before .before .before .before .before .loop in
+    (all-done (windowRead (now (c-args .tables)) (now (c-args .area)) (c-args .t) (now (c-args .routes)) (c-args .x)) (window-fits (now (c-args .tables)) (now (c-args .area)) (c-args .t) (now (c-args .routes)) (c-args .x)) (c-args .x) (c-args .write) (readOf nothingRead (c-args .start) (c-args .len)) (now (c-args .out)) (c .before .before .before .before .before .before .before .before .before .before .before .before .pre) (c-loop .s) (c-loop .ranges) (c-args .len) _ (turning-last (windowRead (now (c-args .tables)) (now (c-args .area)) (c-args .t) (now (c-args .routes)) (c-args .x)) (window-fits (now (c-args .tables)) (now (c-args .area)) (c-args .t) (now (c-args .routes)) (c-args .x)) (c-args .x) (c-args .write) (readOf nothingRead (c-args .start) (c-args .len)) (now (c-args .out)) _ _ _ _ (c-loop .inv .1) (sym (c .before .before .before .before .before .turns-over .ensures) ∙ c .before .before .before .before .if1 .taken)) (sym (c .before .wants-next .ensures (c-loop .ranges) (ap (λ (k : ℕ). getD (c-loop .ranges) k noRange) (sym (c .before .before .before .last-place .ensures)))) ∙ not-true _ (c .if2 .taken)))
 
 appended-range-requires : tie.Need-appended-range-requires Inv-loop μ-loop
 appended-range-requires c κs = search needs
@@ -112,7 +109,7 @@ mul-ranges-2 : tie.Need-mul-ranges-2 Inv-loop μ-loop
 mul-ranges-2 c =
     let c-args = c .before .before .before .before .before .before .before .before .before .before .before .before .before .before .before .before .before .before .args in
     let c-loop = c .before .before .before .before .before .before .before .before .before .before .before .before .loop in
-    let h : c-args .len < 16 = next-room (windowRead (now (c-args .tables)) (now (c-args .area)) (c-args .t) (now (c-args .routes)) (c-args .x)) (window-fits (now (c-args .tables)) (now (c-args .area)) (c-args .t) (now (c-args .routes)) (c-args .x)) (c-args .x) (c-args .write) (readOf nothingRead (c-args .start) (c-args .len)) (now (c-args .out)) (c .before .before .before .before .before .before .before .before .before .before .before .before .before .before .before .before .before .before .pre) (c-loop .s) (c-loop .ranges) (c-args .len) _ (turning-last (windowRead (now (c-args .tables)) (now (c-args .area)) (c-args .t) (now (c-args .routes)) (c-args .x)) (window-fits (now (c-args .tables)) (now (c-args .area)) (c-args .t) (now (c-args .routes)) (c-args .x)) (c-args .x) (c-args .write) (readOf nothingRead (c-args .start) (c-args .len)) (now (c-args .out)) _ _ _ _ (c-loop .inv .1) (sym (c .before .before .before .before .before .before .before .before .before .before .before .turns-over .ensures) ∙ c .before .before .before .before .before .before .before .before .before .before .if1 .taken)) (sym (c .before .before .before .before .before .before .before .wants-next .ensures (c-loop .ranges) (ap (λ (k : ℕ). getD (c-loop .ranges) k noRange) (sym (c .before .before .before .before .before .before .before .before .before .last-place .ensures)))) ∙ not-false _ (c .before .before .before .before .before .before .if2 .left)) in search (needs, h)
+    let h : c-args .len < maxRanges = next-room (windowRead (now (c-args .tables)) (now (c-args .area)) (c-args .t) (now (c-args .routes)) (c-args .x)) (window-fits (now (c-args .tables)) (now (c-args .area)) (c-args .t) (now (c-args .routes)) (c-args .x)) (c-args .x) (c-args .write) (readOf nothingRead (c-args .start) (c-args .len)) (now (c-args .out)) (c .before .before .before .before .before .before .before .before .before .before .before .before .before .before .before .before .before .before .pre) (c-loop .s) (c-loop .ranges) (c-args .len) _ (turning-last (windowRead (now (c-args .tables)) (now (c-args .area)) (c-args .t) (now (c-args .routes)) (c-args .x)) (window-fits (now (c-args .tables)) (now (c-args .area)) (c-args .t) (now (c-args .routes)) (c-args .x)) (c-args .x) (c-args .write) (readOf nothingRead (c-args .start) (c-args .len)) (now (c-args .out)) _ _ _ _ (c-loop .inv .1) (sym (c .before .before .before .before .before .before .before .before .before .before .before .turns-over .ensures) ∙ c .before .before .before .before .before .before .before .before .before .before .if1 .taken)) (sym (c .before .before .before .before .before .before .before .wants-next .ensures (c-loop .ranges) (ap (λ (k : ℕ). getD (c-loop .ranges) k noRange) (sym (c .before .before .before .before .before .before .before .before .before .last-place .ensures)))) ∙ not-false _ (c .before .before .before .before .before .before .if2 .left)) in search (needs, h)
 
 array-set-from-ranges-2 : tie.Need-array-set-from-ranges-2 Inv-loop μ-loop
 array-set-from-ranges-2 c =
@@ -120,12 +117,9 @@ array-set-from-ranges-2 c =
     let c-args = c .before .before .before .before .before .before .before .before .before .before .before .before .before .before .before .before .before .before .args in
     omega (arith, c-loop .inv .0, next-room (windowRead (now (c-args .tables)) (now (c-args .area)) (c-args .t) (now (c-args .routes)) (c-args .x)) (window-fits (now (c-args .tables)) (now (c-args .area)) (c-args .t) (now (c-args .routes)) (c-args .x)) (c-args .x) (c-args .write) (readOf nothingRead (c-args .start) (c-args .len)) (now (c-args .out)) (c .before .before .before .before .before .before .before .before .before .before .before .before .before .before .before .before .before .before .pre) (c-loop .s) (c-loop .ranges) (c-args .len) _ (turning-last (windowRead (now (c-args .tables)) (now (c-args .area)) (c-args .t) (now (c-args .routes)) (c-args .x)) (window-fits (now (c-args .tables)) (now (c-args .area)) (c-args .t) (now (c-args .routes)) (c-args .x)) (c-args .x) (c-args .write) (readOf nothingRead (c-args .start) (c-args .len)) (now (c-args .out)) _ _ _ _ (c-loop .inv .1) (sym (c .before .before .before .before .before .before .before .before .before .before .before .turns-over .ensures) ∙ c .before .before .before .before .before .before .before .before .before .before .if1 .taken)) (sym (c .before .before .before .before .before .before .before .wants-next .ensures (c-loop .ranges) (ap (λ (k : ℕ). getD (c-loop .ranges) k noRange) (sym (c .before .before .before .before .before .before .before .before .before .last-place .ensures)))) ∙ not-false _ (c .before .before .before .before .before .before .if2 .left)))
 
-add-ranges-so-far : tie.Need-add-ranges-so-far Inv-loop μ-loop
-add-ranges-so-far c =
-    let h : c .before .before .before .before .before .before .before .before .before .before .before .before .before .before .before .before .before .before .args .len + 1 < 18446744073709551616 = omega (arith, c .before .before .before .before .before .before .before .before .before .before .before .before .before .before .before .before .before .before .pre .slots) in search (needs, h)
-
-ranges-so-far-requires-2 : tie.Need-ranges-so-far-requires-2 Inv-loop μ-loop
-ranges-so-far-requires-2 c κs = search needs
+add-t32 : tie.Need-add-t32 Inv-loop μ-loop
+add-t32 c =
+    let h : c .before .before .before .before .before .before .before .before .before .before .before .before .before .before .before .before .before .before .before .args .len + 1 < 18446744073709551616 = omega (arith, c .before .before .before .before .before .before .before .before .before .before .before .before .before .before .before .before .before .before .before .pre .slots) in search (needs, h)
 
 same-length-2 : tie.Need-same-length-2 Inv-loop μ-loop
 same-length-2 c =
@@ -137,7 +131,7 @@ returns-2 c =
     let c-args = c .before .before .before .before .before .before .before .before .before .before .before .before .before .before .before .before .before .before .before .args in
     let c-loop = c .before .before .before .before .before .before .before .before .before .before .before .before .before .loop in
     let c-last-place = c .before .before .before .before .before .before .before .before .before .before .last-place in
-    rw (c .ranges-so-far2 .ensures) (next-done (windowRead (now (c-args .tables)) (now (c-args .area)) (c-args .t) (now (c-args .routes)) (c-args .x)) (window-fits (now (c-args .tables)) (now (c-args .area)) (c-args .t) (now (c-args .routes)) (c-args .x)) (c-args .x) (c-args .write) (readOf nothingRead (c-args .start) (c-args .len)) (now (c-args .out)) (c .before .before .before .before .before .before .before .before .before .before .before .before .before .before .before .before .before .before .before .pre) (c-loop .s) (c-loop .ranges) (c-args .len) _ (turning-last (windowRead (now (c-args .tables)) (now (c-args .area)) (c-args .t) (now (c-args .routes)) (c-args .x)) (window-fits (now (c-args .tables)) (now (c-args .area)) (c-args .t) (now (c-args .routes)) (c-args .x)) (c-args .x) (c-args .write) (readOf nothingRead (c-args .start) (c-args .len)) (now (c-args .out)) _ _ _ _ (c-loop .inv .1) (sym (c .before .before .before .before .before .before .before .before .before .before .before .before .turns-over .ensures) ∙ c .before .before .before .before .before .before .before .before .before .before .before .if1 .taken)) (sym (c .before .before .before .before .before .before .before .before .wants-next .ensures (c-loop .ranges) (ap (λ (k : ℕ). getD (c-loop .ranges) k noRange) (sym (c-last-place .ensures)))) ∙ not-false _ (c .before .before .before .before .before .before .before .if2 .left)) (c-loop .inv .0) _ (c .before .before .before .before .before .before .appended-range .ensures (c-loop .ranges) (ap (λ (k : ℕ). getD (c-loop .ranges) k noRange) (sym (c-last-place .ensures)))) _ _ (c .before .before .before .before .turn2 .ensures))
+    (next-done (windowRead (now (c-args .tables)) (now (c-args .area)) (c-args .t) (now (c-args .routes)) (c-args .x)) (window-fits (now (c-args .tables)) (now (c-args .area)) (c-args .t) (now (c-args .routes)) (c-args .x)) (c-args .x) (c-args .write) (readOf nothingRead (c-args .start) (c-args .len)) (now (c-args .out)) (c .before .before .before .before .before .before .before .before .before .before .before .before .before .before .before .before .before .before .before .pre) (c-loop .s) (c-loop .ranges) (c-args .len) _ (turning-last (windowRead (now (c-args .tables)) (now (c-args .area)) (c-args .t) (now (c-args .routes)) (c-args .x)) (window-fits (now (c-args .tables)) (now (c-args .area)) (c-args .t) (now (c-args .routes)) (c-args .x)) (c-args .x) (c-args .write) (readOf nothingRead (c-args .start) (c-args .len)) (now (c-args .out)) _ _ _ _ (c-loop .inv .1) (sym (c .before .before .before .before .before .before .before .before .before .before .before .before .turns-over .ensures) ∙ c .before .before .before .before .before .before .before .before .before .before .before .if1 .taken)) (sym (c .before .before .before .before .before .before .before .before .wants-next .ensures (c-loop .ranges) (ap (λ (k : ℕ). getD (c-loop .ranges) k noRange) (sym (c-last-place .ensures)))) ∙ not-false _ (c .before .before .before .before .before .before .before .if2 .left)) (c-loop .inv .0) _ (c .before .before .before .before .before .before .appended-range .ensures (c-loop .ranges) (ap (λ (k : ℕ). getD (c-loop .ranges) k noRange) (sym (c-last-place .ensures)))) _ _ (c .before .before .before .before .turn2 .ensures))
 
 pub ranges-read-spec : {M : Type 1} → statement M
 ranges-read-spec =
@@ -161,14 +155,12 @@ ranges-read-spec =
     mul-last
     array-copy-out-last
     wants-next-requires
-    ranges-so-far-requires
     same-length
     returns
     appended-range-requires
     turn-requires-2
     mul-ranges-2
     array-set-from-ranges-2
-    add-ranges-so-far
-    ranges-so-far-requires-2
+    add-t32
     same-length-2
     returns-2)

@@ -1,6 +1,6 @@
-use Rattle.externals_reader.specs.Rules.{skipOffsetOf}
+use Rattle.reader_rules.specs.Rules.{skipOffsetOf}
 use lib.Dec.{leb}
-use Rattle.externals_reader.proofs.Laws.{no-here, yes-here}
+use Rattle.rows.proofs.Laws.{no-here, yes-here}
 use Prim.Native.Nat.{_-_}
 use borrow.Author.Tests.{not-true, not-false}
 use borrow.Author.Needs.{needs}

@@ -1,4 +1,4 @@
-use Rattle.externals_reader.proofs.Laws.{no-later, yes-later}
+use Rattle.rows.proofs.Laws.{no-later, yes-later}
 use mathlib.Core.Bool.{not}
 use Prim.Native.Nat.{_-_}
 use mathlib.Core.Path.{ap}

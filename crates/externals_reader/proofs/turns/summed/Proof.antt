@@ -1,7 +1,7 @@
-use Rattle.externals_reader.specs.Each.{each}
-use Rattle.externals_reader.proofs.Each.{each-start, each-next, each-end}
+use Rattle.reader_rules.specs.Each.{each}
+use Rattle.reader_rules.proofs.Each.{each-start, each-next, each-end}
 use lib.Seq.{sets}
-use Rattle.externals_reader.specs.Rules.{sums}
+use Rattle.reader_rules.specs.Rules.{sums}
 use borrow.Author.Needs.{needs}
 use Prim.Native.Nat.{ℕ, _+_, _-_, _≤_}
 use mathlib.Core.Path.{_≡_, refl}

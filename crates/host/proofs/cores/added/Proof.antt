@@ -1,4 +1,4 @@
-use Rattle.host.specs.Calls.{added}
+use Rattle.host.specs.Calls.{addShown}
 use borrow.Author.Needs.{needs}
 use Rattle.host.proofs.cores.added.Statement.{statement}
 use Rattle.host.proofs.cores.added.Tie as tie
@@ -13,7 +13,7 @@ same-length-2 : tie.Need-same-length-2
 same-length-2 c = search needs
 
 returns : tie.Need-returns
-unfolding added
+unfolding addShown
 returns c = c .before .before .before .before .add .ensures
 
 pub added-spec : {M : Type 1} → statement M

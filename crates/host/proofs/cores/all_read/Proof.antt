@@ -1,10 +1,10 @@
 use mathlib.Core.Path.{ap, _∙_}
-use Rattle.externals_reader.specs.declared.ExternalsReader.{ExternalsReader}
-use Rattle.externals_reader.specs.declared.GetNextMessageGroupMode.{GetNextMessageGroupMode}
+use Rattle.reader_rules.specs.declared.ExternalsReader.{ExternalsReader}
+use Rattle.reader_rules.specs.declared.GetNextMessageGroupMode.{GetNextMessageGroupMode}
 use Rattle.externals_reader.specs.Calls.{ReadAllResult, readAllCall}
 use Rattle.host.specs.declared.Reader.{Reader}
 use Rattle.host.specs.Shapes.{readerOf}
-use Rattle.host.specs.Calls.{allRead, readAll}
+use Rattle.host.specs.Calls.{readAllShown, readAll}
 use borrow.Author.Needs.{needs}
 use Rattle.host.proofs.cores.all_read.Statement.{statement}
 use Rattle.host.proofs.cores.all_read.Tie as tie
@@ -36,7 +36,7 @@ returns c =
     ∙ ap (λ (r : ExternalsReader). readAllCall (x .tables .now) (x .area .now) (x .e .transaction) (x .routes .now) r (c-group-mode .result) (x .out .now)) (c .before .before .before .before .before .before .before .before .reader-of .ensures)
     ∙ ap (λ (m : GetNextMessageGroupMode). readAllCall (x .tables .now) (x .area .now) (x .e .transaction) (x .routes .now) (readerOf (x .e .reader)) m (x .out .now)) (c-group-mode .ensures)
     in (
-      ap (λ (r : Reader). record { answer = record { number = a .number; used = a .used; counts = a .counts }; state = record { transaction = a .state; reader = r } }) (c .held-reader .ensures) ∙ ap (λ (q : ReadAllResult). allRead (q .answer)) e,
+      ap (λ (r : Reader). record { answer = record { number = a .number; used = a .used; counts = a .counts }; state = record { transaction = a .state; reader = r } }) (c .held-reader .ensures) ∙ ap (λ (q : ReadAllResult). readAllShown (q .answer)) e,
       ap (λ (q : ReadAllResult). q .out) e,
     )
 

@@ -1,7 +1,7 @@
 use mathlib.Core.Path.{ap, _∙_}
-use Rattle.externals_reader.specs.declared.ExternalsReaderState.{ExternalsReaderState}
+use Rattle.reader_rules.specs.declared.ExternalsReaderState.{ExternalsReaderState}
 use Rattle.externals_reader.specs.Calls.{handedIn, newCall}
-use Rattle.host.specs.Calls.{after, entered}
+use Rattle.host.specs.Calls.{readerShown, newShown}
 use borrow.Author.Needs.{needs}
 use Rattle.host.proofs.cores.entered.Statement.{statement}
 use Rattle.host.proofs.cores.entered.Tie as tie
@@ -16,11 +16,11 @@ after-requires : tie.Need-after-requires
 after-requires c κs = search needs
 
 returns : tie.Need-returns
-unfolding entered
+unfolding newShown
 returns c =
     let r = c .before .before .before .before .before .before .before .args .reader in
     c .after .ensures
-    ∙ ap after
+    ∙ ap readerShown
     (c .before .new .ensures
     ∙ ap (λ (s : ExternalsReaderState). newCall (handedIn (r .«for_shard_id») (r .«block_seqno») (r .«next_chain_time») (r .«msgs_exec_params») (r .«buffer_limits_by_partitions») s)) (c .before .before .state-of .ensures))
 

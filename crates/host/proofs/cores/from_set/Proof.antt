@@ -1,6 +1,6 @@
 use mathlib.Core.Path.{ap, _∙_}
 use Rattle.reader_offsets.specs.Calls.{setFromCall}
-use Rattle.host.specs.Calls.{after}
+use Rattle.host.specs.Calls.{readerShown}
 use borrow.Author.Needs.{needs}
 use Rattle.host.proofs.cores.from_set.Statement.{statement}
 use Rattle.host.proofs.cores.from_set.Tie as tie
@@ -16,7 +16,7 @@ after-requires : tie.Need-after-requires
 after-requires c κs = search needs
 
 returns : tie.Need-returns
-returns c = c .after .ensures ∙ ap after (c .before .set-from-to-current-position-in-last-range-state .ensures ∙ ap setFromCall (c .before .before .reader-of .ensures))
+returns c = c .after .ensures ∙ ap readerShown (c .before .set-from-to-current-position-in-last-range-state .ensures ∙ ap setFromCall (c .before .before .reader-of .ensures))
 
 pub from-set-spec : {M : Type 1} → statement M
 from-set-spec =

@@ -1,6 +1,6 @@
 use mathlib.Core.Path.{ap, _∙_}
 use Rattle.reader_offsets.specs.Calls.{incrementCall}
-use Rattle.host.specs.Calls.{after}
+use Rattle.host.specs.Calls.{readerShown}
 use borrow.Author.Needs.{needs}
 use Rattle.host.proofs.cores.incremented.Statement.{statement}
 use Rattle.host.proofs.cores.incremented.Tie as tie
@@ -15,7 +15,7 @@ after-requires : tie.Need-after-requires
 after-requires c κs = search needs
 
 returns : tie.Need-returns
-returns c = c .after .ensures ∙ ap after (c .before .increment-curr-processed-offset .ensures ∙ ap (incrementCall (c .before .before .before .args .par-id)) (c .before .before .reader-of .ensures))
+returns c = c .after .ensures ∙ ap readerShown (c .before .increment-curr-processed-offset .ensures ∙ ap (incrementCall (c .before .before .before .args .par-id)) (c .before .before .reader-of .ensures))
 
 pub incremented-spec : {M : Type 1} → statement M
 incremented-spec =

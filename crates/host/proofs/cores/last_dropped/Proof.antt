@@ -1,6 +1,6 @@
 use mathlib.Core.Path.{ap, _∙_}
 use Rattle.externals_reader.specs.Calls.{dropLastCall}
-use Rattle.host.specs.Calls.{after}
+use Rattle.host.specs.Calls.{readerShown}
 use borrow.Author.Needs.{needs}
 use Rattle.host.proofs.cores.last_dropped.Statement.{statement}
 use Rattle.host.proofs.cores.last_dropped.Tie as tie
@@ -16,7 +16,7 @@ after-requires : tie.Need-after-requires
 after-requires c κs = search needs
 
 returns : tie.Need-returns
-returns c = c .after .ensures ∙ ap after (c .before .drop-last-read-to-anchor-chain-time .ensures ∙ ap dropLastCall (c .before .before .reader-of .ensures))
+returns c = c .after .ensures ∙ ap readerShown (c .before .drop-last-read-to-anchor-chain-time .ensures ∙ ap dropLastCall (c .before .before .reader-of .ensures))
 
 pub last-dropped-spec : {M : Type 1} → statement M
 last-dropped-spec =

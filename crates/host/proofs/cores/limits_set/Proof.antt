@@ -1,7 +1,7 @@
 use mathlib.Core.Path.{ap, _∙_}
-use Rattle.externals_reader.specs.declared.ExternalsReader.{ExternalsReader}
+use Rattle.reader_rules.specs.declared.ExternalsReader.{ExternalsReader}
 use Rattle.externals_reader.specs.Calls.{setLimitsCall}
-use Rattle.host.specs.Calls.{after}
+use Rattle.host.specs.Calls.{readerShown}
 use borrow.Author.Needs.{needs}
 use Rattle.host.proofs.cores.limits_set.Statement.{statement}
 use Rattle.host.proofs.cores.limits_set.Tie as tie
@@ -16,7 +16,7 @@ after-requires : tie.Need-after-requires
 after-requires c κs = search needs
 
 returns : tie.Need-returns
-returns c = c .after .ensures ∙ ap after (c .before .set-buffer-limits-by-partition .ensures ∙ ap (λ (r : ExternalsReader). setLimitsCall r (c .before .before .before .before .args .limits .«by_partitions»)) (c .before .before .reader-of .ensures))
+returns c = c .after .ensures ∙ ap readerShown (c .before .set-buffer-limits-by-partition .ensures ∙ ap (λ (r : ExternalsReader). setLimitsCall r (c .before .before .before .before .args .limits .«by_partitions»)) (c .before .before .reader-of .ensures))
 
 pub limits-set-spec : {M : Type 1} → statement M
 limits-set-spec =

@@ -1,6 +1,6 @@
 use mathlib.Core.Path.{ap, _∙_}
 use Rattle.reader_offsets.specs.Calls.{dropCall}
-use Rattle.host.specs.Calls.{after}
+use Rattle.host.specs.Calls.{readerShown}
 use borrow.Author.Needs.{needs}
 use Rattle.host.proofs.cores.offset_dropped.Statement.{statement}
 use Rattle.host.proofs.cores.offset_dropped.Tie as tie
@@ -17,7 +17,7 @@ after-requires c κs = search needs
 returns : tie.Need-returns
 returns c =
     let c-args = c .before .before .before .args in
-    c .after .ensures ∙ ap after (c .before .drop-processing-offset .ensures ∙ ap (dropCall (c-args .par-id) (c-args .drop-skip-offset)) (c .before .before .reader-of .ensures))
+    c .after .ensures ∙ ap readerShown (c .before .drop-processing-offset .ensures ∙ ap (dropCall (c-args .par-id) (c-args .drop-skip-offset)) (c .before .before .reader-of .ensures))
 
 pub offset-dropped-spec : {M : Type 1} → statement M
 offset-dropped-spec =

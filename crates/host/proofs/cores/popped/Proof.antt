@@ -1,6 +1,6 @@
 use mathlib.Core.Path.{ap, _∙_}
 use Rattle.host.specs.declared.AnchorShown.{AnchorShown}
-use Rattle.host.specs.Calls.{popped}
+use Rattle.host.specs.Calls.{popShown}
 use borrow.Author.Needs.{needs}
 use Rattle.host.proofs.cores.popped.Statement.{statement}
 use Rattle.host.proofs.cores.popped.Tie as tie
@@ -12,10 +12,10 @@ anchor-shown-requires : tie.Need-anchor-shown-requires
 anchor-shown-requires c κs = search needs
 
 returns : tie.Need-returns
-unfolding popped
+unfolding popShown
 returns c =
     let c-pop-front = c .before .before .before .pop-front in
-    ap (λ (a : AnchorShown). record { answer = a; state = c-pop-front .result .state }) (c .before .anchor-shown .ensures) ∙ ap popped (c-pop-front .ensures)
+    ap (λ (a : AnchorShown). record { answer = a; state = c-pop-front .result .state }) (c .before .anchor-shown .ensures) ∙ ap popShown (c-pop-front .ensures)
 
 pub popped-spec : {M : Type 1} → statement M
 popped-spec = tie.close (tie.spec pop-front-requires anchor-shown-requires returns)

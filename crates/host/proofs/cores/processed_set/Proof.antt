@@ -1,6 +1,6 @@
 use mathlib.Core.Path.{ap, _∙_}
 use Rattle.reader_offsets.specs.Calls.{setProcessedCall}
-use Rattle.host.specs.Calls.{after}
+use Rattle.host.specs.Calls.{readerShown}
 use borrow.Author.Needs.{needs}
 use Rattle.host.proofs.cores.processed_set.Statement.{statement}
 use Rattle.host.proofs.cores.processed_set.Tie as tie
@@ -15,7 +15,7 @@ after-requires : tie.Need-after-requires
 after-requires c κs = search needs
 
 returns : tie.Need-returns
-returns c = c .after .ensures ∙ ap after (c .before .set-processed-to-current-position .ensures ∙ ap (setProcessedCall (c .before .before .before .args .par-id)) (c .before .before .reader-of .ensures))
+returns c = c .after .ensures ∙ ap readerShown (c .before .set-processed-to-current-position .ensures ∙ ap (setProcessedCall (c .before .before .before .args .par-id)) (c .before .before .reader-of .ensures))
 
 pub processed-set-spec : {M : Type 1} → statement M
 processed-set-spec =

@@ -1,8 +1,8 @@
 use mathlib.Core.Path.{ap, _∙_}
-use Rattle.range_reader.specs.declared.ReadNextExternalsMode.{ReadNextExternalsMode}
+use Rattle.range_rules.specs.declared.ReadNextExternalsMode.{ReadNextExternalsMode}
 use Rattle.range_reader.specs.Calls.{ReadResult, readCall}
 use Rattle.host.specs.declared.SavedTime.{SavedTime}
-use Rattle.host.specs.Calls.{rangeRead, readRange}
+use Rattle.host.specs.Calls.{readRangeShown, readRange}
 use borrow.Author.Needs.{needs}
 use Rattle.host.proofs.cores.range_read.Statement.{statement}
 use Rattle.host.proofs.cores.range_read.Tie as tie
@@ -31,7 +31,7 @@ returns c =
     ∙ ap (λ (m : ReadNextExternalsMode). readCall (x .tables .now) (x .area .now) (x .e .transaction) (s .shard) (x .routes .now) (s .limits) (s .processed) (s .timeout) m (x .e .range) (x .out .now)) (c .before .before .before .before .before .before .before .before .range-mode .ensures)
     in (
       ap (λ (l : SavedTime). record { answer = record { number = a .number; full = a .full; «last_chain_time» = l; pops = a .pops; used = a .used; counts = a .counts }; state = record { transaction = a .state; range = a .range } }) (c .saved-time .ensures)
-          ∙ ap (λ (q : ReadResult). rangeRead (q .answer)) e,
+          ∙ ap (λ (q : ReadResult). readRangeShown (q .answer)) e,
       ap (λ (q : ReadResult). q .out) e,
     )
 

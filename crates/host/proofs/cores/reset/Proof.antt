@@ -1,6 +1,6 @@
 use mathlib.Core.Path.{ap, _∙_}
 use Rattle.externals_reader.specs.Calls.{resetCall}
-use Rattle.host.specs.Calls.{after}
+use Rattle.host.specs.Calls.{readerShown}
 use borrow.Author.Needs.{needs}
 use Rattle.host.proofs.cores.reset.Statement.{statement}
 use Rattle.host.proofs.cores.reset.Tie as tie
@@ -15,7 +15,7 @@ after-requires : tie.Need-after-requires
 after-requires c κs = search needs
 
 returns : tie.Need-returns
-returns c = c .after .ensures ∙ ap after (c .before .reset-read-state .ensures ∙ ap resetCall (c .before .before .reader-of .ensures))
+returns c = c .after .ensures ∙ ap readerShown (c .before .reset-read-state .ensures ∙ ap resetCall (c .before .before .reader-of .ensures))
 
 pub reset-spec : {M : Type 1} → statement M
 reset-spec =

@@ -1,6 +1,6 @@
 use mathlib.Core.Path.{ap, _∙_}
 use Rattle.reader_offsets.specs.Calls.{retainCall}
-use Rattle.host.specs.Calls.{after}
+use Rattle.host.specs.Calls.{readerShown}
 use borrow.Author.Needs.{needs}
 use Rattle.host.proofs.cores.retained.Statement.{statement}
 use Rattle.host.proofs.cores.retained.Tie as tie
@@ -15,7 +15,7 @@ after-requires : tie.Need-after-requires
 after-requires c κs = search needs
 
 returns : tie.Need-returns
-returns c = c .after .ensures ∙ ap after (c .before .retain-only-last-range-state .ensures ∙ ap retainCall (c .before .before .reader-of .ensures))
+returns c = c .after .ensures ∙ ap readerShown (c .before .retain-only-last-range-state .ensures ∙ ap retainCall (c .before .before .reader-of .ensures))
 
 pub retained-spec : {M : Type 1} → statement M
 retained-spec =

@@ -1,6 +1,6 @@
 use mathlib.Core.Path.{ap, _∙_}
 use Rattle.reader_offsets.specs.Calls.{setSkipCall}
-use Rattle.host.specs.Calls.{after}
+use Rattle.host.specs.Calls.{readerShown}
 use borrow.Author.Needs.{needs}
 use Rattle.host.proofs.cores.skip_set.Statement.{statement}
 use Rattle.host.proofs.cores.skip_set.Tie as tie
@@ -16,7 +16,7 @@ after-requires : tie.Need-after-requires
 after-requires c κs = search needs
 
 returns : tie.Need-returns
-returns c = c .after .ensures ∙ ap after (c .before .set-skip-processed-offset-to-current .ensures ∙ ap (setSkipCall (c .before .before .before .args .par-id)) (c .before .before .reader-of .ensures))
+returns c = c .after .ensures ∙ ap readerShown (c .before .set-skip-processed-offset-to-current .ensures ∙ ap (setSkipCall (c .before .before .before .args .par-id)) (c .before .before .reader-of .ensures))
 
 pub skip-set-spec : {M : Type 1} → statement M
 skip-set-spec =

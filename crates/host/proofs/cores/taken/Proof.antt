@@ -1,6 +1,6 @@
 use mathlib.Core.Path.{ap, _∙_}
 use Rattle.reader_offsets.specs.Calls.{takenCall}
-use Rattle.host.specs.Calls.{after}
+use Rattle.host.specs.Calls.{readerShown}
 use borrow.Author.Needs.{needs}
 use Rattle.host.proofs.cores.taken.Statement.{statement}
 use Rattle.host.proofs.cores.taken.Tie as tie
@@ -17,7 +17,7 @@ after-requires c κs = search needs
 returns : tie.Need-returns
 returns c =
     let c-args = c .before .before .before .args in
-    c .after .ensures ∙ ap after (c .before .messages-taken .ensures ∙ ap (takenCall (c-args .seqno) (c-args .par-id) (c-args .taken)) (c .before .before .reader-of .ensures))
+    c .after .ensures ∙ ap readerShown (c .before .messages-taken .ensures ∙ ap (takenCall (c-args .seqno) (c-args .par-id) (c-args .taken)) (c .before .before .reader-of .ensures))
 
 pub taken-spec : {M : Type 1} → statement M
 taken-spec = tie.close (tie.spec reader-of-requires messages-taken-requires after-requires returns)

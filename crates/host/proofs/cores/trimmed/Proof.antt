@@ -1,6 +1,6 @@
 use mathlib.Core.Path.{ap, _∙_}
 use Rattle.host.specs.declared.InfoShown.{InfoShown}
-use Rattle.host.specs.Calls.{trimmed}
+use Rattle.host.specs.Calls.{trimShown}
 use borrow.Author.Needs.{needs}
 use Rattle.host.proofs.cores.trimmed.Statement.{statement}
 use Rattle.host.proofs.cores.trimmed.Tie as tie
@@ -12,10 +12,10 @@ info-shown-requires : tie.Need-info-shown-requires
 info-shown-requires c κs = search needs
 
 returns : tie.Need-returns
-unfolding trimmed
+unfolding trimShown
 returns c =
     let c-remove-last-imported-above = c .before .before .before .remove-last-imported-above in
-    ap (λ (a : InfoShown). record { answer = a; state = c-remove-last-imported-above .result .state }) (c .before .info-shown .ensures) ∙ ap trimmed (c-remove-last-imported-above .ensures)
+    ap (λ (a : InfoShown). record { answer = a; state = c-remove-last-imported-above .result .state }) (c .before .info-shown .ensures) ∙ ap trimShown (c-remove-last-imported-above .ensures)
 
 pub trimmed-spec : {M : Type 1} → statement M
 trimmed-spec = tie.close (tie.spec remove-last-imported-above-requires info-shown-requires returns)

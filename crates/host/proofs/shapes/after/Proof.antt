@@ -1,6 +1,6 @@
 use mathlib.Core.Path.{ap}
 use Rattle.host.specs.declared.Reader.{Reader}
-use Rattle.host.specs.Calls.{after}
+use Rattle.host.specs.Calls.{readerShown}
 use borrow.Author.Needs.{needs}
 use Rattle.host.proofs.shapes.after.Statement.{statement}
 use Rattle.host.proofs.shapes.after.Tie as tie
@@ -9,7 +9,7 @@ held-reader-requires : tie.Need-held-reader-requires
 held-reader-requires c κs = search needs
 
 returns : tie.Need-returns
-unfolding after
+unfolding readerShown
 returns c = ap (λ (r : Reader). record { number = c .before .args .d .number; reader = r }) (c .held-reader .ensures)
 
 pub after-spec : {M : Type 1} → statement M

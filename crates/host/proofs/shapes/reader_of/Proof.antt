@@ -1,5 +1,5 @@
 use mathlib.Core.Path.{ap}
-use Rattle.externals_reader.specs.declared.ExternalsReaderState.{ExternalsReaderState}
+use Rattle.reader_rules.specs.declared.ExternalsReaderState.{ExternalsReaderState}
 use Rattle.host.specs.Shapes.{readerOf}
 use borrow.Author.Needs.{needs}
 use Rattle.host.proofs.shapes.reader_of.Statement.{statement}

@@ -1,5 +1,5 @@
 use mathlib.Core.Path.{ap}
-use Rattle.range_reader.specs.declared.LastChainTime.{LastChainTime}
+use Rattle.range_rules.specs.declared.LastChainTime.{LastChainTime}
 use borrow.Author.Needs.{needs}
 use Rattle.host.proofs.shapes.state_of.Statement.{statement}
 use Rattle.host.proofs.shapes.state_of.Tie as tie

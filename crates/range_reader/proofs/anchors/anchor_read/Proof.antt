@@ -1,7 +1,7 @@
 -- Each return is one case of a look at an anchor; the rest of its messages is a part of the area within its bounds.
 use lib.ListN.{length-take, length-drop}
-use Rattle.range_reader.specs.Rules.{looked}
-use Rattle.range_reader.proofs.Counts.{weaker, within-up}
+use Rattle.range_rules.specs.Rules.{looked}
+use Rattle.range_rules.proofs.Counts.{weaker, within-up}
 use Rattle.range_reader.proofs.AnchorLaws.{anchor-popped, anchor-expired, anchor-walked, within-looked, looked-reached}
 use Prim.Native.Nat.{_-_}
 use mathlib.Core.Path.{sym, _∙_}
@@ -9,6 +9,7 @@ use native.Mathlib.Omega.{arith}
 use borrow.Author.Needs.{needs}
 use Rattle.range_reader.proofs.anchors.anchor_read.Statement.{statement}
 use Rattle.range_reader.proofs.anchors.anchor_read.Tie as tie
+use Rattle.cache_rules.specs.Rules.{maxMessages}
 
 popped-requires : tie.Need-popped-requires
 popped-requires c κs = c .before .before .before .before .before .before .pre .pops
@@ -99,7 +100,7 @@ count-expired-requires c κs =
     let p = c-pre .placed in
     let f = c-first-unread .ensures .1 in
     let n = c-pre .few .few in
-    (c-pre .fixed .shard-sound, c-pre .fixed .routes-sound, simp (length-take, length-drop) (omega arith), omega arith, rw (c .before .before .before .before .before .before .before .before .before .before .before .before .before .before .looked .ensures) (weaker (looked (c-args .x) (c-args .a .id) (c-args .r .walk) .counts .expired) (1024 - c-args .a .count) (1024 - (c-args .a .count - c-first-unread .result)) (omega arith) (within-looked (c-args .x) (1024 - c-args .a .count) (c-args .a .id) (c-args .r .walk) (c-pre .few .within) .expired)))
+    (c-pre .fixed .shard-sound, c-pre .fixed .routes-sound, simp (length-take, length-drop) (omega arith), omega arith, rw (c .before .before .before .before .before .before .before .before .before .before .before .before .before .before .looked .ensures) (weaker (looked (c-args .x) (c-args .a .id) (c-args .r .walk) .counts .expired) (maxMessages - c-args .a .count) (maxMessages - (c-args .a .count - c-first-unread .result)) (omega arith) (within-looked (c-args .x) (maxMessages - c-args .a .count) (c-args .a .id) (c-args .r .walk) (c-pre .few .within) .expired)))
 
 expired-requires : tie.Need-expired-requires
 expired-requires c κs = c .before .before .before .before .before .before .before .before .before .before .before .before .before .before .before .before .before .before .before .before .before .before .before .pre .pops
@@ -119,7 +120,7 @@ messages-read-requires c κs =
     let p = c-pre .placed in
     let f = c-first-unread .ensures .1 in
     let n = c-pre .few .few in
-    (c-pre .fixed, simp (length-take, length-drop) (omega arith), c-first-unread .ensures .2, record { few = omega arith; within = rw (c .before .before .before .before .before .before .before .before .before .before .before .before .looked .ensures) (within-up (c-args .x) (1024 - c-args .a .count) _ (within-looked (c-args .x) _ (c-args .a .id) (c-args .r .walk) (c-pre .few .within)) _ (omega arith)) }, looked-reached (c-args .x) (c-args .a .id) (c-args .r .walk) _ (c .before .before .before .before .before .before .before .before .before .before .before .before .looked .ensures))
+    (c-pre .fixed, simp (length-take, length-drop) (omega arith), c-first-unread .ensures .2, record { few = omega arith; within = rw (c .before .before .before .before .before .before .before .before .before .before .before .before .looked .ensures) (within-up (c-args .x) (maxMessages - c-args .a .count) _ (within-looked (c-args .x) _ (c-args .a .id) (c-args .r .walk) (c-pre .few .within)) _ (omega arith)) }, looked-reached (c-args .x) (c-args .a .id) (c-args .r .walk) _ (c .before .before .before .before .before .before .before .before .before .before .before .before .looked .ensures))
 
 finished-requires : tie.Need-finished-requires
 finished-requires c κs = c .before .before .before .before .before .before .before .before .before .before .before .before .before .before .before .before .before .before .before .before .before .before .before .pre .pops

@@ -1,5 +1,6 @@
--- The invariant says that what is left to read comes to the whole read; each look that does not end it popped one anchor.
-use Rattle.range_reader.specs.Rules.{anchorsRead, silent}
+-- The invariant says that what is left to read comes to the whole read; each look that does not end it popped one
+-- anchor.
+use Rattle.range_rules.specs.Rules.{anchorsRead, silent}
 use Rattle.range_reader.proofs.AnchorLaws.{RangeTurn, range-start, range-none, range-ended, range-next, anchor-fits, front-some, front-none}
 use Rattle.anchors_cache.specs.Tables.{withMessages, anchors}
 use borrow.Author.Needs.{needs}

@@ -1,4 +1,4 @@
-use Rattle.range_reader.specs.Rules.{expired}
+use Rattle.range_rules.specs.Rules.{expired}
 use borrow.Author.Needs.{needs}
 use Rattle.range_reader.proofs.anchors.expired.Statement.{statement}
 use Rattle.range_reader.proofs.anchors.expired.Tie as tie

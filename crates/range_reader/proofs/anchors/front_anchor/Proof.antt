@@ -7,6 +7,8 @@ use borrow.Author.Tests.{lt-ltb, le-leb}
 use borrow.Author.Needs.{needs}
 use Rattle.range_reader.proofs.anchors.front_anchor.Statement.{statement}
 use Rattle.range_reader.proofs.anchors.front_anchor.Tie as tie
+use Rattle.cache_rules.specs.Rules.{maxAnchors}
+use Rattle.anchors_cache.specs.Tables.{tablesBytes}
 
 returns : tie.Need-returns
 returns c =
@@ -20,7 +22,7 @@ returns-2 : tie.Need-returns-2
 unfolding rowAt
 returns-2 c =
     let c-args = c .before .before .before .args in
-    rw (anchors-cons (c-args .at) (c-args .left) (c-args .tables .now) (omega arith), c .cached-row .ensures, lt-ltb (c-args .at) 32 (omega arith), le-leb 14912 (length (c-args .tables .now)) (omega arith))
+    rw (anchors-cons (c-args .at) (c-args .left) (c-args .tables .now) (omega arith), c .cached-row .ensures, lt-ltb (c-args .at) maxAnchors (omega arith), le-leb tablesBytes (length (c-args .tables .now)) (omega arith))
 
 pub front-anchor-spec : {M : Type 1} → statement M
 front-anchor-spec = tie.close (tie.spec returns cached-row-requires returns-2)

@@ -1,4 +1,4 @@
-use Rattle.range_reader.specs.Rules.{looked}
+use Rattle.range_rules.specs.Rules.{looked}
 use borrow.Author.Needs.{needs}
 use Rattle.range_reader.proofs.anchors.looked.Statement.{statement}
 use Rattle.range_reader.proofs.anchors.looked.Tie as tie

@@ -2,7 +2,7 @@
 use Rattle.rows.proofs.Laws.{and-true}
 use Rattle.anchors_cache.specs.Tables.{anchorsOf}
 use Rattle.range_reader.proofs.AnchorLaws.{refused-run, checked-run, written-run, done-run}
-use Rattle.range_reader.proofs.RefusalLaws.{no-refusal}
+use Rattle.range_reader.proofs.RefusalLaws.{no-refusal-on-the-window}
 use Prim.Native.Nat.{_-_, _*_}
 use mathlib.Core.Path.{sym, _∙_}
 use lib.ListN.{drop}
@@ -27,7 +27,7 @@ returns c =
     let c-args = c .before .before .before .before .before .before .before .before .before .before .args in
     let c-pre = c .before .before .before .before .before .before .before .before .before .before .pre in
     let a = and-true (c-args .write) _ (sym (c .before .before .before .before .before .writes-at-once .ensures) ∙ c .before .before .before .before .if1 .taken) in
-    written-run (c-args .write) (c-args .out .now) (c-args .begin .walk .buffers .used) _ (no-refusal (c-args .x) (c-args .routes .now) (drop (33 * c-args .c .base) (c-args .area .now)) (anchorsOf (c-args .tables .now) (c-args .c)) (c-args .begin) (c-pre .number) (c-pre .used) (a .1)) _ _ (a .0) (c .before .before .anchors-read .ensures)
+    written-run (c-args .write) (c-args .out .now) (c-args .begin .walk .buffers .used) _ (no-refusal-on-the-window (c-args .x) (c-args .routes .now) (drop (33 * c-args .c .base) (c-args .area .now)) (anchorsOf (c-args .tables .now) (c-args .c)) (c-args .begin) (c-pre .number) (c-pre .used) (a .1)) _ _ (a .0) (c .before .before .anchors-read .ensures)
 
 anchors-read-requires-2 : tie.Need-anchors-read-requires-2
 anchors-read-requires-2 c κs = c .before .before .before .before .before .before .before .pre

@@ -1,4 +1,4 @@
-use Rattle.range_reader.specs.Rules.{refusedWith}
+use Rattle.range_rules.specs.Rules.{refusedWith}
 use mathlib.Core.Path.{refl}
 use Rattle.range_reader.proofs.anchors.refused_with.Statement.{statement}
 use Rattle.range_reader.proofs.anchors.refused_with.Tie as tie

@@ -1,11 +1,10 @@
 -- The invariant says that the count of what is left comes to the whole count.
-use lib.ListN.{length-take, length-drop}
+use lib.ListN.{length, length-set}
 use Rattle.range_reader.proofs.MessageLaws.{Counted, counted-next, expired-none, expired-other, expired-ours}
 use borrow.Author.Needs.{needs}
 use Prim.Native.Nat.{_-_}
 use mathlib.Core.Path.{_≡_, refl, sym, _∙_}
 use native.Mathlib.Omega.{arith}
-use lib.ListN.{length, length-set}
 use borrow.Author.Tests.{not-true, not-false}
 use Rattle.range_reader.proofs.messages.count_expired.Statement.{statement}
 use Rattle.range_reader.proofs.messages.count_expired.Tie as tie
@@ -52,10 +51,7 @@ loop-again c =
     (counted-next (c-args .shard) (c-args .routes .now) (c-args .rest .now) (c-args .n) (c-args .start) (c-loop .counts) _ (c-loop .at) (c-loop .left) (c-loop .inv .0) (c .before .before .before .loop-test .taken) (expired-other (c-args .shard) (c-args .routes .now) _ (c-loop .counts) (sym (c .before .is-ours .ensures) ∙ not-true _ (c .if1 .taken))), c-loop .inv .1)
 
 partition-of-requires : tie.Need-partition-of-requires Inv-loop μ-loop
-partition-of-requires c κs =
-    let b = c .before .before .before .before .loop .inv .0 .bytes in
-    let p = c .before .before .before .loop-test .taken in
-    (c .before .before .before .before .before .before .before .pre .1, simp (length-take, length-drop) (omega arith))
+partition-of-requires c κs = c .before .before .before .before .before .before .before .pre .1
 
 mul-counts : tie.Need-mul-counts Inv-loop μ-loop
 mul-counts c = search needs

@@ -1,5 +1,5 @@
 -- Each return is one case of the verdict.
-use Rattle.range_reader.specs.Rules.{judge}
+use Rattle.range_rules.specs.Rules.{judge}
 use mathlib.Core.Path.{sym, _∙_}
 use borrow.Author.Tests.{not-true, not-false}
 use borrow.Author.Needs.{needs}

@@ -1,13 +1,13 @@
--- The invariant says that what is left to walk comes to the whole walk, with the entries written so far; the walk is what the locals stand for.
+-- The invariant says that what is left to walk comes to the whole walk, with the entries written so far; the walk is
+-- what the locals stand for.
 use Rattle.range_reader.proofs.LocalLaws.{LocalTurn, locals-start, locals-fit, locals-stopped, locals-other, locals-room, locals-ours, taken-once}
-use lib.ListN.{length-take, length-drop, length-map}
+use lib.ListN.{length-map, length}
 use Rattle.range_reader.proofs.MessageLaws.{turn-stop, turn-none}
 use Rattle.range_reader.specs.Locals.{walkOf}
 use borrow.Author.Needs.{needs}
 use Prim.Native.Nat.{_-_}
 use mathlib.Core.Path.{_≡_, refl, sym, _∙_}
 use native.Mathlib.Omega.{arith}
-use lib.ListN.{length}
 use borrow.Author.Tests.{not-true, not-false}
 use Rattle.range_reader.proofs.messages.messages_read.Statement.{statement}
 use Rattle.range_reader.proofs.messages.messages_read.Tie as tie
@@ -84,10 +84,7 @@ loop-again c =
     locals-other (c-args .t1) (c-args .routes .now) (c-args .time) (c-args .rest .now) (c-args .n) (c-args .write) (c-args .out .now) (c-args .start) (c-loop .out) (c-loop .key) (c-loop .b) (c-loop .partitions) (c-loop .read) (c-loop .buffered) (c-loop .at) (c-loop .left) (c-loop .inv) (c .before .before .before .before .before .before .before .before .loop-test .taken) (locals-stopped (c-args .t1) (c-args .routes .now) (c-args .time) (c-args .rest .now) (c-args .n) (c-args .write) (c-args .out .now) (c-args .start) (c-loop .out) (c-loop .key) (c-loop .b) (c-loop .partitions) (c-loop .read) (c-loop .buffered) (c-loop .at) (c-loop .left) (c-loop .inv) (c .before .before .before .before .before .before .before .before .before .before .before .before .before .before .before .before .before .before .before .before .before .pre .4) _ (c .before .before .before .before .before .before .stops .ensures) ∙ c .before .before .before .before .before .if1 .left) (sym (c .before .is-ours .ensures) ∙ not-true _ (c .if2 .taken))
 
 partition-of-requires : tie.Need-partition-of-requires Inv-loop μ-loop
-partition-of-requires c κs =
-    let b = c .before .before .before .before .before .before .before .before .before .loop .inv .turn .bytes in
-    let p = c .before .before .before .before .before .before .before .before .loop-test .taken in
-    (c .before .before .before .before .before .before .before .before .before .before .before .before .before .before .before .before .before .before .before .before .before .pre .0 .routes-sound, simp (length-take, length-drop) (omega arith))
+partition-of-requires c κs = c .before .before .before .before .before .before .before .before .before .before .before .before .before .before .before .before .before .before .before .before .before .pre .0 .routes-sound
 
 mul-processed : tie.Need-mul-processed Inv-loop μ-loop
 mul-processed c = search needs

@@ -1,7 +1,7 @@
 -- Each return is one verdict.
-use Rattle.range_reader.specs.declared.Verdict.the-variants.{Keep, Buffer, Refuse}
+use Rattle.range_rules.specs.declared.Verdict.the-variants.{Keep, Buffer, Refuse}
 use Rattle.range_reader.specs.Locals.{entriesOf}
-use Rattle.range_reader.proofs.Counts.{judge-buffer}
+use Rattle.range_rules.proofs.Counts.{judge-buffer}
 use Rattle.range_reader.proofs.LocalLaws.{our-taken, no-entry}
 use borrow.Author.Tests.{leb-true}
 use Prim.Native.Nat.{_+_, _-_, _≤_}
@@ -10,6 +10,7 @@ use native.Mathlib.Omega.{arith}
 use borrow.Author.Needs.{needs}
 use Rattle.range_reader.proofs.messages.our_read.Statement.{statement}
 use Rattle.range_reader.proofs.messages.our_read.Tie as tie
+use Rattle.range_rules.specs.Rules.{entryLen}
 
 sum-within-requires : tie.Need-sum-within-requires
 sum-within-requires c κs = search needs
@@ -30,14 +31,14 @@ put-if-requires : tie.Need-put-if-requires
 put-if-requires c κs =
     let c-args = c .before .before .before .before .before .before .before .args in
     let j = judge-buffer _ _ _ _ (sym (c .before .before .before .judged .ensures) ∙ c .before .enum-told2 .given .1) in
-    let r : c-args .b .used + 26 ≤ c-args .room = leb-true _ _ (sym (c .before .before .before .before .sum-within .ensures) ∙ j .0) in
+    let r : c-args .b .used + entryLen ≤ c-args .room = leb-true _ _ (sym (c .before .before .before .before .sum-within .ensures) ∙ j .0) in
     omega (arith, c .before .before .before .before .before .before .before .pre .0)
 
 buffered-requires : tie.Need-buffered-requires
 buffered-requires c κs =
     let c-args = c .before .before .before .before .before .before .before .before .before .before .args in
     let j = judge-buffer _ _ _ _ (sym (c .before .before .before .before .before .before .judged .ensures) ∙ c .before .before .before .before .enum-told2 .given .1) in
-    let r : c-args .b .used + 26 ≤ c-args .room = leb-true _ _ (sym (c .before .before .before .before .before .before .before .sum-within .ensures) ∙ j .0) in
+    let r : c-args .b .used + entryLen ≤ c-args .room = leb-true _ _ (sym (c .before .before .before .before .before .before .before .sum-within .ensures) ∙ j .0) in
     (c .before .before .before .before .before .before .before .before .before .before .pre .1 (j .1), (let g = c .before .before .before .before .before .before .before .before .before .before .good .1 .1 .1 .1 .1 .0 in omega (arith, r)))
 
 enum-known-v : tie.Need-enum-known-v

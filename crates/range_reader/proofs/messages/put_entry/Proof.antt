@@ -1,17 +1,18 @@
 -- The five stores, one behind the other, are one store of the entry, in its own part of the output.
 use Prim.Native.Nat.{_+_, _-_}
-use mathlib.Core.Path.{_≡_, sym, _∙_}
+use mathlib.Core.Path.{_≡_, _∙_}
 use native.Mathlib.Omega.{arith}
 use lib.ListN.{length, take, drop, length-take, length-drop}
 use Rattle.range_reader.specs.Locals.{bytesOf}
-use Rattle.range_reader.proofs.Counts.{entry-written, length-entry}
-use Rattle.range_reader.proofs.EntryLaws.{part-stored}
+use Rattle.range_reader.proofs.EntryLaws.{entry-written, part-stored}
+use Rattle.range_rules.proofs.Counts.{length-entry}
 use borrow.Author.Needs.{needs}
 use Rattle.range_reader.proofs.messages.put_entry.Statement.{statement}
 use Rattle.range_reader.proofs.messages.put_entry.Tie as tie
 use Rattle.range_reader.proofs.messages.put_entry.Reads as reads
 use Rattle.range_reader.proofs.messages.put_entry.Lts as lts
 use Rattle.rows.proofs.put_le.Reads as put-le-reads
+use Rattle.range_rules.specs.Rules.{entryLen}
 
 -- src/messages.rt:213:28
 add-row : tie.Need-add-row
@@ -65,9 +66,9 @@ same-length c = search needs
 returns : tie.Need-returns
 returns c =
     let a = c .before .before .before .before .before .before .before .before .before .before .before .before .before .before .before .before .before .before .before .before .before .before .before .before .before .args in
-    let n = a .at + 26 - a .at in
+    let n = a .at + entryLen - a .at in
     let row = take n (drop (a .at) (a .out .now)) in
-    let l : length row ≡ 26 = simp (length-take, length-drop) (omega arith) in
+    let l : length row ≡ entryLen = simp (length-take, length-drop) (omega arith) in
     part-stored (a .out .now) (a .at) n (bytesOf (a .e)) (c .before .before .put-le5 .last .0) (omega arith) (length-entry _ _ _ _ ∙ omega arith)
     (rw (c .before .before .put-le5 .ensures, c .before .before .before .before .before .put-le4 .ensures, c .before .before .before .before .before .before .before .before .before .put-le3 .ensures, c .before .before .before .before .before .before .before .before .before .before .before .before .before .before .put-le2 .ensures, c .before .before .before .before .before .before .before .before .before .before .before .before .before .before .before .before .before .before .put-le .ensures)
     (entry-written row 0 (a .e .seqno) (a .e .partition) (a .e .key) (a .e .time) (omega arith)))

@@ -1,6 +1,6 @@
 -- Each return is one case of the stop.
 use Rattle.range_reader.specs.Locals.{stoppedAt}
-use Rattle.range_reader.specs.Rules.{ends}
+use Rattle.range_rules.specs.Rules.{ends}
 use Prim.Native.Nat.{_-_}
 use mathlib.Core.Path.{sym, ap, _∙_}
 use borrow.Author.Tests.{eq-eqb, ne-eqb}

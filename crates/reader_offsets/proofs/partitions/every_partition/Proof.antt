@@ -8,13 +8,13 @@ use mathlib.Core.Path.{_≡_, sym, ap, _∙_}
 use native.Mathlib.Omega.{arith}
 use borrow.Author.Tests.{not-true, not-false}
 use borrow.Author.Needs.{needs}
-use Rattle.reader_offsets.specs.Rules.{allBelow, meets, partitionOf, recordAt}
+use Rattle.reader_rules.specs.Offsets.{allBelow, meets, readerPartition, recordAt}
 use Rattle.reader_offsets.proofs.Windows.{below-none, below-next, below-fail}
 use Rattle.reader_offsets.proofs.partitions.every_partition.Statement.{statement}
 use Rattle.reader_offsets.proofs.partitions.every_partition.Tie as tie
 
 abbrev Inv-loop : tie.InvT-loop
-Inv-loop test partitions records i₀ i = (i ≤ 8) × (allBelow i (λ j. meets test (partitionOf j partitions) (recordAt j records)) ≡ true)
+Inv-loop test partitions records i₀ i = (i ≤ 8) × (allBelow i (λ j. meets test (readerPartition j partitions) (recordAt j records)) ≡ true)
 
 abbrev μ-loop : tie.MeasureT-loop
 μ-loop test partitions records i₀ i = 8 - i
@@ -56,7 +56,7 @@ returns-2 c =
     let c-args = c .before .before .args in
     let l = c .before .loop in
     let h : l .i ≡ 8 = omega arith in
-    sym (sym (ap (λ (k : ℕ). allBelow k (λ j. meets (c-args .test) (partitionOf j (c-args .t2)) (recordAt j (c-args .t3)))) h) ∙ l .inv .1)
+    sym (sym (ap (λ (k : ℕ). allBelow k (λ j. meets (c-args .test) (readerPartition j (c-args .t2)) (recordAt j (c-args .t3)))) h) ∙ l .inv .1)
 
 pub every-partition-spec : {M : Type 1} → statement M
 every-partition-spec =

@@ -6,7 +6,7 @@ use mathlib.Core.Path.{_≡_, sym}
 use native.Mathlib.Omega.{arith}
 use lib.ListN.{length, List·getD-eq-default}
 use borrow.Author.Needs.{needs}
-use Rattle.externals_reader.specs.State.{noReaderPartition}
+use Rattle.reader_rules.specs.State.{noReaderPartition}
 use Rattle.reader_offsets.proofs.partitions.partition_at.Statement.{statement}
 use Rattle.reader_offsets.proofs.partitions.partition_at.Tie as tie
 

@@ -9,7 +9,7 @@ use lib.ListN.{length, length-map}
 use lib.Seq.{set-out}
 use borrow.Author.Needs.{needs}
 use Rattle.messages_buffer.specs.declared.ExternalsPartitionRangeReaderState.{ExternalsPartitionRangeReaderState}
-use Rattle.reader_offsets.specs.Rules.{withRecords}
+use Rattle.reader_rules.specs.Offsets.{withRecords}
 use Rattle.reader_offsets.proofs.partitions.with_record.Statement.{statement}
 use Rattle.reader_offsets.proofs.partitions.with_record.Tie as tie
 

@@ -9,15 +9,15 @@ use lib.ListN.{length}
 use borrow.Author.Tests.{not-true, not-false}
 use borrow.Author.Needs.{needs}
 use Rattle.rows.specs.Rows.{part}
-use Rattle.range_reader.specs.declared.ExternalsRangeReaderState.{ExternalsRangeReaderState}
-use Rattle.reader_offsets.specs.Rules.{allFullyRead}
-use Rattle.externals_reader.specs.State.{noRange}
+use Rattle.range_rules.specs.declared.ExternalsRangeReaderState.{ExternalsRangeReaderState}
+use Rattle.reader_rules.specs.Offsets.{allFullyRead}
+use Rattle.reader_rules.specs.State.{noRange, maxRanges}
 use Rattle.reader_offsets.proofs.Windows.{every-fail, every-next, every-end}
 use Rattle.reader_offsets.proofs.ranges.all_fully_read.Statement.{statement}
 use Rattle.reader_offsets.proofs.ranges.all_fully_read.Tie as tie
 
 abbrev Inv-loop : tie.InvT-loop
-Inv-loop len ranges at₀ left₀ at left = (at + left ≤ 16) × (allFullyRead (part at left ranges) ≡ allFullyRead (part 0 len ranges))
+Inv-loop len ranges at₀ left₀ at left = (at + left ≤ maxRanges) × (allFullyRead (part at left ranges) ≡ allFullyRead (part 0 len ranges))
 
 abbrev μ-loop : tie.MeasureT-loop
 μ-loop len ranges at₀ left₀ at left = left
@@ -35,7 +35,7 @@ returns : tie.Need-returns Inv-loop μ-loop
 returns c =
     let l = c .before .before .before .before .loop in
     let xs = c .before .before .before .before .before .args .t1 in
-    let n : length xs ≡ 16 = search needs in
+    let n : length xs ≡ maxRanges = search needs in
     sym (sym (l .inv .1) ∙ every-fail (λ (r : ExternalsRangeReaderState). r .«fully_read») noRange xs (l .at) (l .left) (c .before .before .before .loop-test .taken) (omega arith) (not-true _ (c .if1 .taken)))
 
 add-at : tie.Need-add-at Inv-loop μ-loop
@@ -51,7 +51,7 @@ loop-again : tie.Need-loop-again Inv-loop μ-loop
 loop-again c =
     let l = c .before .before .before .before .loop in
     let xs = c .before .before .before .before .before .args .t1 in
-    let n : length xs ≡ 16 = search needs in
+    let n : length xs ≡ maxRanges = search needs in
     (omega arith, every-next (λ (r : ExternalsRangeReaderState). r .«fully_read») noRange xs (l .at) (l .left) (c .before .before .before .loop-test .taken) (omega arith) (not-false _ (c .if1 .left)) ∙ l .inv .1)
 
 returns-2 : tie.Need-returns-2 Inv-loop μ-loop

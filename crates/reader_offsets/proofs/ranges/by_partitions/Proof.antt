@@ -8,10 +8,10 @@ use native.Mathlib.Omega.{arith}
 use lib.Seq.{sets}
 use borrow.Author.Needs.{needs}
 use Rattle.rows.specs.Rows.{part}
-use Rattle.reader_offsets.specs.Rules.{tallyOf, shown}
-use Rattle.externals_reader.specs.Each.{each}
-use Rattle.reader_offsets.specs.declared.Tally.{Tally}
-use Rattle.externals_reader.proofs.Each.{each-start, each-next, each-end}
+use Rattle.reader_rules.specs.Offsets.{tallyOf, shown}
+use Rattle.reader_rules.specs.Each.{each}
+use Rattle.reader_rules.specs.declared.Tally.{Tally}
+use Rattle.reader_rules.proofs.Each.{each-start, each-next, each-end}
 use Rattle.reader_offsets.proofs.ranges.by_partitions.Statement.{statement}
 use Rattle.reader_offsets.proofs.ranges.by_partitions.Tie as tie
 

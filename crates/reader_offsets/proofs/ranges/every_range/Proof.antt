@@ -7,14 +7,14 @@ use lib.ListN.{length}
 use borrow.Author.Tests.{not-true, not-false}
 use borrow.Author.Needs.{needs}
 use Rattle.rows.specs.Rows.{part}
-use Rattle.reader_offsets.specs.Rules.{rangeMeets, rangesMeet}
-use Rattle.externals_reader.specs.State.{noRange}
+use Rattle.reader_rules.specs.Offsets.{rangeMeets, rangesMeet}
+use Rattle.reader_rules.specs.State.{noRange, maxRanges}
 use Rattle.reader_offsets.proofs.Windows.{every-fail, every-next, every-end}
 use Rattle.reader_offsets.proofs.ranges.every_range.Statement.{statement}
 use Rattle.reader_offsets.proofs.ranges.every_range.Tie as tie
 
 abbrev Inv-loop : tie.InvT-loop
-Inv-loop test partitions first n ranges at₀ left₀ at left = (at + left ≤ 16) × (rangesMeet test partitions (part at left ranges) ≡ rangesMeet test partitions (part first n ranges))
+Inv-loop test partitions first n ranges at₀ left₀ at left = (at + left ≤ maxRanges) × (rangesMeet test partitions (part at left ranges) ≡ rangesMeet test partitions (part first n ranges))
 
 abbrev μ-loop : tie.MeasureT-loop
 μ-loop test partitions first n ranges at₀ left₀ at left = left
@@ -36,7 +36,7 @@ returns c =
     let c-args = c .before .before .before .before .before .before .args in
     let l = c .before .before .before .before .before .loop in
     let xs = c-args .t3 in
-    let n : length xs ≡ 16 = search needs in
+    let n : length xs ≡ maxRanges = search needs in
     sym (sym (l .inv .1) ∙ every-fail (rangeMeets (c-args .test) (c-args .partitions)) noRange xs (l .at) (l .left) (c .before .before .before .before .loop-test .taken) (omega arith) (sym (c .before .every-partition .ensures) ∙ not-true _ (c .if1 .taken)))
 
 add-at : tie.Need-add-at Inv-loop μ-loop
@@ -53,7 +53,7 @@ loop-again c =
     let c-args = c .before .before .before .before .before .before .args in
     let l = c .before .before .before .before .before .loop in
     let xs = c-args .t3 in
-    let n : length xs ≡ 16 = search needs in
+    let n : length xs ≡ maxRanges = search needs in
     (omega arith, every-next (rangeMeets (c-args .test) (c-args .partitions)) noRange xs (l .at) (l .left) (c .before .before .before .before .loop-test .taken) (omega arith) (sym (c .before .every-partition .ensures) ∙ not-false _ (c .if1 .left)) ∙ l .inv .1)
 
 returns-2 : tie.Need-returns-2 Inv-loop μ-loop

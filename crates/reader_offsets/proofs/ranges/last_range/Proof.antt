@@ -9,6 +9,7 @@ use borrow.Author.Needs.{needs}
 use Rattle.reader_offsets.proofs.Held.{held-last}
 use Rattle.reader_offsets.proofs.ranges.last_range.Statement.{statement}
 use Rattle.reader_offsets.proofs.ranges.last_range.Tie as tie
+use Rattle.reader_rules.specs.State.{maxRanges}
 
 sub-at : tie.Need-sub-at
 sub-at c = search needs
@@ -23,7 +24,7 @@ returns : tie.Need-returns
 returns c =
     let c-pre = c .before .before .before .pre in
     let s = c .before .before .before .args .state in
-    let n : length (s .ranges) ≡ 16 = sym (length-map (s .ranges) _) ∙ c .before .before .before .good .0 .1 .1 .0 .1 .0 .1 in
+    let n : length (s .ranges) ≡ maxRanges = sym (length-map (s .ranges) _) ∙ c .before .before .before .good .0 .1 .1 .0 .1 .0 .1 in
     sym (held-last (s .ranges) (s .len) (omega (arith, c-pre)) (c-pre .0))
 
 pub last-range-spec : {M : Type 1} → statement M

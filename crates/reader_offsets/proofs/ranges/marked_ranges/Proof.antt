@@ -8,8 +8,8 @@ use mathlib.Core.Path.{_≡_, refl, ap, _∙_}
 use native.Mathlib.Omega.{arith}
 use lib.ListN.{length, take, drop}
 use borrow.Author.Needs.{needs}
-use Rattle.reader_offsets.specs.Rules.{marked}
-use Rattle.externals_reader.specs.State.{noRange}
+use Rattle.reader_rules.specs.Offsets.{marked}
+use Rattle.reader_rules.specs.State.{noRange, maxRanges}
 use Rattle.reader_offsets.proofs.Held.{map-next}
 use Rattle.reader_offsets.proofs.ranges.marked_ranges.Statement.{statement}
 use Rattle.reader_offsets.proofs.ranges.marked_ranges.Tie as tie
@@ -48,7 +48,7 @@ loop-again : tie.Need-loop-again Inv-loop μ-loop
 loop-again c =
     let l = c .before .before .before .loop in
     let xs = c .before .before .before .before .args .t1 in
-    let n : length xs ≡ 16 = search needs in
+    let n : length xs ≡ maxRanges = search needs in
     (omega arith, map-next marked noRange xs (l .table) (l .i) _ (omega arith) (l .inv .1) (c .marked .ensures))
 
 returns : tie.Need-returns Inv-loop μ-loop

@@ -9,13 +9,14 @@ use lib.ListN.{length}
 use borrow.Author.Tests.{eq-eqb, ne-eqb}
 use borrow.Author.Needs.{needs}
 use Rattle.rows.specs.Rows.{part}
-use Rattle.reader_offsets.specs.Rules.{placeOf}
+use Rattle.reader_rules.specs.Offsets.{placeOf}
 use Rattle.reader_offsets.proofs.Windows.{place-here, place-next, place-end}
 use Rattle.reader_offsets.proofs.ranges.place_of.Statement.{statement}
 use Rattle.reader_offsets.proofs.ranges.place_of.Tie as tie
+use Rattle.reader_rules.specs.State.{maxRanges}
 
 abbrev Inv-loop : tie.InvT-loop
-Inv-loop len seqno ranges at₀ left₀ at left = (at + left ≤ 16) × (at + placeOf seqno (part at left ranges) ≡ placeOf seqno (part 0 len ranges))
+Inv-loop len seqno ranges at₀ left₀ at left = (at + left ≤ maxRanges) × (at + placeOf seqno (part at left ranges) ≡ placeOf seqno (part 0 len ranges))
 
 abbrev μ-loop : tie.MeasureT-loop
 μ-loop len seqno ranges at₀ left₀ at left = left
@@ -34,7 +35,7 @@ returns c =
     let c-args = c .before .before .before .before .before .args in
     let l = c .before .before .before .before .loop in
     let xs = c-args .t1 in
-    let n : length xs ≡ 16 = search needs in
+    let n : length xs ≡ maxRanges = search needs in
     sym (place-here xs (l .at) (l .left) (c .before .before .before .loop-test .taken) (omega arith) (c-args .seqno) (eq-eqb _ _ (c .if1 .taken))) ∙ l .inv .1
 
 add-at : tie.Need-add-at Inv-loop μ-loop
@@ -51,7 +52,7 @@ loop-again c =
     let c-args = c .before .before .before .before .before .args in
     let l = c .before .before .before .before .loop in
     let xs = c-args .t1 in
-    let n : length xs ≡ 16 = search needs in
+    let n : length xs ≡ maxRanges = search needs in
     (omega arith, place-next xs (l .at) (l .left) (c .before .before .before .loop-test .taken) (omega arith) (c-args .seqno) (ne-eqb _ _ (c .if1 .left)) ∙ l .inv .1)
 
 returns-2 : tie.Need-returns-2 Inv-loop μ-loop

@@ -8,15 +8,15 @@ use lib.ListN.{length, length-map, take}
 use lib.Seq.{sets}
 use borrow.Author.Needs.{needs}
 use Rattle.messages_buffer.specs.declared.ExternalsPartitionRangeReaderState.{ExternalsPartitionRangeReaderState}
-use Rattle.reader_offsets.specs.Rules.{partitionOf, recordAt, recordOf, tallyOf, raised, withRecords}
-use Rattle.externals_reader.specs.Each.{each}
-use Rattle.reader_offsets.specs.declared.Tally.{Tally}
-use Rattle.externals_reader.proofs.Each.{each-start, each-next, each-end}
+use Rattle.reader_rules.specs.Offsets.{readerPartition, recordAt, recordOf, tallyOf, offsetRaised, withRecords}
+use Rattle.reader_rules.specs.Each.{each}
+use Rattle.reader_rules.specs.declared.Tally.{Tally}
+use Rattle.reader_rules.proofs.Each.{each-start, each-next, each-end}
 use Rattle.reader_offsets.proofs.ranges.raised_range.Statement.{statement}
 use Rattle.reader_offsets.proofs.ranges.raised_range.Tie as tie
 
 abbrev Inv-loop : tie.InvT-loop
-Inv-loop last ranges len partitions records table₀ i₀ table i = (i ≤ 8) × (table ≡ sets table₀ 0 (each i (λ j. raised (partitionOf j partitions) (tallyOf j (take len ranges) .processed) (recordAt j records))))
+Inv-loop last ranges len partitions records table₀ i₀ table i = (i ≤ 8) × (table ≡ sets table₀ 0 (each i (λ j. offsetRaised (readerPartition j partitions) (tallyOf j (take len ranges) .processed) (recordAt j records))))
 
 abbrev μ-loop : tie.MeasureT-loop
 μ-loop last ranges len partitions records table₀ i₀ table i = 8 - i
@@ -58,7 +58,7 @@ loop-again : tie.Need-loop-again Inv-loop μ-loop
 loop-again c =
     let c-args = c .before .before .before .before .before .before .before .args in
     let l = c .before .before .before .before .before .loop in
-    (omega arith, each-next (λ (j : ℕ). raised (partitionOf j (c-args .t2)) (tallyOf j (take (c-args .len) (c-args .ranges)) .processed) (recordOf j (c-args .last))) _ (l .i) (l .table) _ (l .inv .1) (c .raised .ensures ∙ ap (λ (z : Tally). raised (partitionOf (l .i) (c-args .t2)) (z .processed) (recordOf (l .i) (c-args .last))) (c .before .tally .ensures)))
+    (omega arith, each-next (λ (j : ℕ). offsetRaised (readerPartition j (c-args .t2)) (tallyOf j (take (c-args .len) (c-args .ranges)) .processed) (recordOf j (c-args .last))) _ (l .i) (l .table) _ (l .inv .1) (c .raised .ensures ∙ ap (λ (z : Tally). offsetRaised (readerPartition (l .i) (c-args .t2)) (z .processed) (recordOf (l .i) (c-args .last))) (c .before .tally .ensures)))
 
 returns : tie.Need-returns Inv-loop μ-loop
 returns c =
@@ -66,7 +66,7 @@ returns c =
     let l = c .before .loop in
     let h : 8 ≡ l .i = omega arith in
     let n : length (c-args .last .«by_partitions») ≡ 8 = sym (length-map (c-args .last .«by_partitions») _) ∙ c .before .before .before .good .0 .1 .1 .1 .1 .1 .1 .1 .1 .0 .1 .0 .1 in
-    ap (λ (xs : List ExternalsPartitionRangeReaderState). withRecords xs (c-args .last)) (each-end (λ (j : ℕ). raised (partitionOf j (c-args .t2)) (tallyOf j (take (c-args .len) (c-args .ranges)) .processed) (recordOf j (c-args .last))) _ 8 (l .i) (l .table) h n (l .inv .1))
+    ap (λ (xs : List ExternalsPartitionRangeReaderState). withRecords xs (c-args .last)) (each-end (λ (j : ℕ). offsetRaised (readerPartition j (c-args .t2)) (tallyOf j (take (c-args .len) (c-args .ranges)) .processed) (recordOf j (c-args .last))) _ 8 (l .i) (l .table) h n (l .inv .1))
 
 pub raised-range-spec : {M : Type 1} → statement M
 raised-range-spec =

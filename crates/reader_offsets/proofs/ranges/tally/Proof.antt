@@ -8,14 +8,15 @@ use native.Mathlib.Omega.{arith}
 use lib.ListN.{length}
 use borrow.Author.Needs.{needs}
 use Rattle.rows.specs.Rows.{part}
-use Rattle.reader_offsets.specs.Rules.{tallied, tallyFrom, noTally}
-use Rattle.reader_offsets.specs.declared.Tally.{Tally}
+use Rattle.reader_rules.specs.Offsets.{tallied, tallyFrom, noTally}
+use Rattle.reader_rules.specs.declared.Tally.{Tally}
 use Rattle.reader_offsets.proofs.Windows.{tally-next, tally-end}
 use Rattle.reader_offsets.proofs.ranges.tally.Statement.{statement}
 use Rattle.reader_offsets.proofs.ranges.tally.Tie as tie
+use Rattle.reader_rules.specs.State.{maxRanges}
 
 abbrev Inv-loop : tie.InvT-loop
-Inv-loop first n par ranges t₀ at₀ left₀ t at left = (at + left ≤ 16) × (t .count + 4294967296 * left ≤ 4294967296 * 16) × (tallyFrom par t (part at left ranges) ≡ tallyFrom par noTally (part first n ranges))
+Inv-loop first n par ranges t₀ at₀ left₀ t at left = (at + left ≤ maxRanges) × (t .count + 4294967296 * left ≤ 4294967296 * 16) × (tallyFrom par t (part at left ranges) ≡ tallyFrom par noTally (part first n ranges))
 
 abbrev μ-loop : tie.MeasureT-loop
 μ-loop first n par ranges t₀ at₀ left₀ t at left = left
@@ -53,7 +54,7 @@ loop-again c =
     let c-tallied = c .tallied in
     let l = c .before .before .before .before .before .loop in
     let xs = c-args .t1 in
-    let n : length xs ≡ 16 = search needs in
+    let n : length xs ≡ maxRanges = search needs in
     (omega arith, omega (arith, c-tallied .ensures .1, l .inv .1), ap (λ (z : Tally). tallyFrom (c-args .par) z (part (l .at + 1) (l .left - 1) xs)) (c-tallied .ensures .0) ∙ (tally-next xs (l .at) (l .left) (c .before .before .before .before .loop-test .taken) (omega arith) (c-args .par) (l .t) ∙ l .inv .2))
 
 returns : tie.Need-returns Inv-loop μ-loop

@@ -9,6 +9,7 @@ use borrow.Author.Needs.{needs}
 use Rattle.reader_offsets.proofs.Held.{held-set}
 use Rattle.reader_offsets.proofs.ranges.with_range.Statement.{statement}
 use Rattle.reader_offsets.proofs.ranges.with_range.Tie as tie
+use Rattle.reader_rules.specs.State.{maxRanges}
 
 mul-ranges : tie.Need-mul-ranges
 mul-ranges c = search needs
@@ -24,7 +25,7 @@ returns c =
     let c-args = c .before .before .before .args in
     let c-pre = c .before .before .before .pre in
     let s = c-args .reader in
-    let n : length (s .«reader_state» .ranges) ≡ 16 = sym (length-map (s .«reader_state» .ranges) _) ∙ c .before .before .before .good .0 .1 .1 .1 .1 .1 .1 .1 .0 .1 .1 .0 .1 .0 .1 in
+    let n : length (s .«reader_state» .ranges) ≡ maxRanges = sym (length-map (s .«reader_state» .ranges) _) ∙ c .before .before .before .good .0 .1 .1 .1 .1 .1 .1 .1 .0 .1 .1 .0 .1 .0 .1 in
     c .with-ranges .ensures ∙ held-set s (omega (arith, c-pre)) (c-args .at) (c-args .range) (c-pre .0)
 
 pub with-range-spec : {M : Type 1} → statement M

@@ -1,4 +1,4 @@
-use Rattle.session.specs.Steps.{noReader}
+use Rattle.session_rules.specs.Steps.{noReader}
 use borrow.Author.Needs.{needs}
 use Rattle.session.proofs.reading.no_reader.Statement.{statement}
 use Rattle.session.proofs.reading.no_reader.Tie as tie

@@ -1,4 +1,4 @@
-use Rattle.lines.specs.Lines.{Text}
+use Rattle.text.specs.Shown.{Text}
 use Rattle.session.proofs.Laws.{show-both, show-written, show-all}
 use borrow.Author.Needs.{needs}
 use Rattle.session.proofs.reading.put_answer.Statement.{statement}

@@ -1,4 +1,4 @@
-use Rattle.session.proofs.Laws.{read-told}
+use Rattle.session.proofs.Laws.{read-leaves}
 use borrow.Author.Needs.{needs}
 use Rattle.session.proofs.reading.read.Statement.{statement}
 use Rattle.session.proofs.reading.read.Tie as tie
@@ -22,7 +22,7 @@ returns : tie.Need-returns
 returns c =
     let c-read-into-buffers = c .before .before .before .before .before .before .before .before .before .read-into-buffers in
     let a = c .before .before .before .before .before .before .before .before .before .before .before .before .before .before .before .before .before .before .args in
-    read-told (a .session) (c-read-into-buffers .result) _ _ (rw (c .before .before .before .before .before .before .before .before .before .before .before .mode-of .ensures) at (c-read-into-buffers .ensures)) _ _ _ (c .before .before .put-read .ensures)
+    read-leaves (a .session) (c-read-into-buffers .result) _ _ (rw (c .before .before .before .before .before .before .before .before .before .before .before .mode-of .ensures) at (c-read-into-buffers .ensures)) _ _ _ (c .before .before .put-read .ensures)
 
 pub read-spec : {M : Type 1} → statement M
 read-spec =

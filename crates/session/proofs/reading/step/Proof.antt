@@ -1,4 +1,4 @@
-use Rattle.session.specs.Steps.{Lent}
+use Rattle.session_rules.specs.Steps.{Lent}
 use Rattle.session.proofs.Laws.{shard-step, settings-step, routes-missing, read-step}
 use mathlib.Core.Path.{refl}
 use borrow.Author.Needs.{needs}
@@ -21,8 +21,8 @@ returns c =
     let l : Lent = record { tables = a .tables .now; area = a .area .now; routes = a .routes .now; entries = a .entries .now } in
     shard-step l (a .session) (a .reader) (a .kind) (a .p .now) (a .text .now) _ _ (c-with-shard .result) (c .before .before .before .before .before .if1 .taken) (c-with-shard .ensures) (c .before .before .put-in .ensures)
 
-settled-requires : tie.Need-settled-requires
-settled-requires c κs = search needs
+with-settings-requires : tie.Need-with-settings-requires
+with-settings-requires c κs = search needs
 
 put-in-requires-2 : tie.Need-put-in-requires-2
 put-in-requires-2 c κs = search needs
@@ -32,10 +32,10 @@ same-length-2 c = search needs
 
 returns-2 : tie.Need-returns-2
 returns-2 c =
-    let c-settled = c .before .before .before .settled in
+    let c-settings = c .before .before .before .with-settings in
     let a = c .before .before .before .before .before .before .before .before .before .before .before .before .before .args in
     let l : Lent = record { tables = a .tables .now; area = a .area .now; routes = a .routes .now; entries = a .entries .now } in
-    settings-step l (a .session) (a .reader) (a .kind) (a .p .now) (a .text .now) _ _ (c .before .before .before .before .before .before .if1 .left) (c-settled .result) (c .before .before .before .before .before .if2 .taken) (c-settled .ensures) (c .before .before .put-in2 .ensures)
+    settings-step l (a .session) (a .reader) (a .kind) (a .p .now) (a .text .now) _ _ (c .before .before .before .before .before .before .if1 .left) (c-settings .result) (c .before .before .before .before .before .if2 .taken) (c-settings .ensures) (c .before .before .put-in2 .ensures)
 
 bad-requires : tie.Need-bad-requires
 bad-requires c κs = search needs
@@ -74,7 +74,7 @@ returns-4 c =
     let c-byte-at = c .before .before .before .before .before .before .before .before .byte-at in
     let a = c .before .before .before .before .before .before .before .before .before .before .before .before .before .before .before .before .before .before .args in
     let l : Lent = record { tables = a .tables .now; area = a .area .now; routes = a .routes .now; entries = a .entries .now } in
-    read-step l (a .session) (a .reader) (a .kind) (a .p .now) (a .text .now) _ _ (c .before .before .before .before .before .before .before .before .before .before .before .if1 .left) (c .before .before .before .before .before .before .before .before .before .before .if2 .left) (c-byte-at .result) _ (c .before .before .before .before .before .before .before .before .before .if3 .left) (c-byte-at .ensures) (c .before .before .before .before .read .ensures)
+    read-step l (a .session) (a .reader) (a .kind) (a .p .now) (a .text .now) (c .before .before .before .before .before .before .before .before .before .before .before .if1 .left) (c .before .before .before .before .before .before .before .before .before .before .if2 .left) (c-byte-at .result) _ (c .before .before .before .before .before .before .before .before .before .if3 .left) (c-byte-at .ensures) (c .before .before .before .before .read .ensures)
 
 pub step-spec : {M : Type 1} → statement M
 step-spec =
@@ -84,7 +84,7 @@ step-spec =
     put-in-requires
     same-length
     returns
-    settled-requires
+    with-settings-requires
     put-in-requires-2
     same-length-2
     returns-2

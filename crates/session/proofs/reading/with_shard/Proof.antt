@@ -1,4 +1,4 @@
-use Rattle.session.specs.Steps.{shardDone}
+use Rattle.session_rules.specs.Steps.{shardDone}
 use borrow.Author.Needs.{needs}
 use Rattle.session.proofs.reading.with_shard.Statement.{statement}
 use Rattle.session.proofs.reading.with_shard.Tie as tie

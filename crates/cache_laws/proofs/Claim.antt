@@ -1,0 +1,366 @@
+-- The claim about any list of calls between an open and a close that answer 0: numbers and final cache are the book's.
+use Prim.Native.Nat.{ℕ, zero, suc, _*_, _/_, _≤_, _<_}
+use mathlib.Core.Path.{_≡_, refl, sym, ap, _∙_}
+use mathlib.Core.Bool.{Bool, true, false, not}
+use mathlib.Core.List.{List, [], _∷_, map}
+use native.Mathlib.Omega.{arith}
+use lib.ListN.{length, drop}
+use borrow.Author.Tests.{le-leb, lt-leb}
+use Rattle.rows.specs.Rows.{pick}
+use Rattle.anchors_cache.specs.declared.AnchorsCacheTransaction.{AnchorsCacheTransaction}
+use Rattle.anchors_cache.specs.declared.MempoolAnchor.{MempoolAnchor}
+use Rattle.cache_rules.specs.Rules.{Cache, rowOf, popFront, trim, total, lastOf, rightSize, aboveLast, room, sameBool, ask, areaBytes}
+use Rattle.anchors_cache.specs.Tables.{anchorsOf, view}
+use Rattle.anchors_cache.specs.Windows.{poppedTimes, usedBy}
+use Rattle.anchors_cache.specs.Calls.{placesIn, refusal, refusalAt, onZero, answer, withCache, addNumber, addCall, popAnswer, popCall, popsCall, trimAnswer, trimCall, clearCall, openCall, commitCall, rollbackCall, closeCall}
+use Rattle.anchors_cache.proofs.Laws.{anchors-length, infos-length, rows-of-messages}
+use Rattle.anchors_cache.proofs.Asked.{Parts, valid-parts, refusal-zero, at-asked, at-refused, add-asked}
+use Rattle.cache_laws.specs.Book.{Book, begin, finish, holds, bookRefusal, bookAdd, popTimes, Area, same, short, lend, Call, Reading, reading, enter, entered, bookNumbers, performed, numbers}
+use Rattle.cache_laws.specs.Entries.{popping, poppingMany, trimming, committing, rollingBack, closing, opening, clearing, adding}
+use Rattle.cache_laws.proofs.Views.{length-messages, view-popped, view-popped-times, view-trimmed}
+use Rattle.cache_laws.proofs.Kept.{whole, popped-parts, times-parts, trimmed-parts, valid-of, holds-view}
+
+-- the transaction stands for the book
+pub record Stands (tables area : List ℕ) (t : AnchorsCacheTransaction) (b : Book) : Type 0 where
+  pub is-open : t .active ≡ true
+  pub now-ok : Parts (placesIn (length area)) tables (t .cache)
+  pub then-ok : Parts (placesIn (length area)) tables (t .undo)
+  pub present : view tables area (t .cache) ≡ b .present
+  pub opening : view tables area (t .undo) ≡ b .opening
+  pub mark : t .committed ≡ b .mark
+
+-- ---- an area that question 1 refuses
+module _ (n : ℕ) (few : n < areaBytes) where
+  short-book : (b : Book) (rest : ℕ) → bookRefusal n b rest ≡ 1
+  unfolding bookRefusal
+  short-book b rest = rw (lt-leb areaBytes n few)
+
+  module _ (tables : List ℕ) (t : AnchorsCacheTransaction) where
+    short-refusal : refusal n tables t ≡ 1
+    unfolding refusal
+    short-refusal = rw (lt-leb areaBytes n few)
+
+    short-at : (must : Bool) → refusalAt must n tables t ≡ 1
+    unfolding refusalAt
+    short-at must = rw (lt-leb areaBytes n few)
+
+    short-add : (id ours k : ℕ) → addNumber n tables t id ours k ≡ 1
+    unfolding addNumber
+    short-add id ours k = rw (lt-leb areaBytes n few)
+
+-- ---- the area of the run
+-- questions 6 to 8 with the transaction open never give 0
+add-never : {A : Type 0} (id ours k : ℕ) (v : Cache) (x y : A) → onZero (bookAdd id ours k v 9) x y ≡ y
+unfolding bookAdd
+add-never id ours k v x y = go (rightSize ours k) (aboveLast id (lastOf (map rowOf (v .anchors)))) (room (length (v .anchors)) (total (map rowOf (v .anchors))) (length (v .history)) ours (k / 33))
+  where
+    go : (a b c : Bool) → onZero (ask 6 a (ask 7 b (ask 8 c 9))) x y ≡ y
+    go false b c = refl
+    go true false c = refl
+    go true true false = refl
+    go true true true = refl
+
+module _ (tables area : List ℕ) (big : areaBytes ≤ length area) (t : AnchorsCacheTransaction) (b : Book) (s : Stands tables area t b) where
+  accepted : refusal (length area) tables t ≡ 0
+  unfolding refusal
+  accepted = rw (le-leb areaBytes (length area) big, valid-of (placesIn (length area)) tables t (s .now-ok) (λ h. s .then-ok))
+
+  accepted-at : (must : Bool) → refusalAt must (length area) tables t ≡ ask 9 must 0
+  accepted-at must = at-asked (length area) tables t must accepted ∙ (ap (λ (x : Bool). ask 9 (sameBool must x) 0) (s .is-open) ∙ go must)
+    where
+      go : (m : Bool) → ask 9 (sameBool m true) 0 ≡ ask 9 m 0
+      go true = refl
+      go false = refl
+
+  book-accepts : (rest : ℕ) → bookRefusal (length area) b rest ≡ rest
+  unfolding bookRefusal
+  book-accepts rest =
+      let p : holds (b .present) ≡ true = ap holds (sym (s .present)) ∙ holds-view (placesIn (length area)) tables area (t .cache) (s .now-ok) in
+      let q : holds (b .opening) ≡ true = ap holds (sym (s .opening)) ∙ holds-view (placesIn (length area)) tables area (t .undo) (s .then-ok) in
+      rw (le-leb areaBytes (length area) big, p, q)
+
+  rows-same : map rowOf (b .present .anchors) ≡ anchorsOf tables (t .cache)
+  unfolding view
+  rows-same = ap (λ (v : Cache). map rowOf (v .anchors)) (sym (s .present)) ∙ rows-of-messages (drop (33 * t .cache .base) area) (anchorsOf tables (t .cache))
+
+  len-same : length (b .present .anchors) ≡ t .cache .len
+  unfolding view
+  len-same = ap (λ (v : Cache). length (v .anchors)) (sym (s .present)) ∙ (length-messages (drop (33 * t .cache .base) area) (anchorsOf tables (t .cache)) ∙ anchors-length (t .cache .first) (t .cache .len) tables)
+
+  history-same : length (b .present .history) ≡ t .cache .«history_len»
+  unfolding view
+  history-same = ap (λ (v : Cache). length (v .history)) (sym (s .present)) ∙ infos-length (t .cache .«history_first») (t .cache .«history_len») tables
+
+  add-number : (id ours k : ℕ) → addNumber (length area) tables t id ours k ≡ bookAdd id ours k (b .present) 9
+  unfolding bookAdd
+  add-number id ours k = add-asked (length area) tables t id ours k accepted ∙ (ap (λ (x : Bool). tail (not x)) (s .is-open) ∙ rw (rows-same, len-same, history-same))
+    where
+      tail : Bool → ℕ
+      tail x = ask 6 (rightSize ours k) (ask 7 (aboveLast id (lastOf (anchorsOf tables (t .cache)))) (ask 8 (room (t .cache .len) (usedBy tables (t .cache)) (t .cache .«history_len») ours (k / 33)) (ask 9 x 0)))
+
+on-self : {A : Type 0} (k : ℕ) (x : A) → onZero k x x ≡ x
+on-self zero x = refl
+on-self (suc k) x = refl
+
+-- ---- one call
+-- on the window and on the book the same number, and what is left still stands for the book
+abbrev pub Follows : List ℕ → List ℕ → Call → Type 0
+Follows tables area k = (t : AnchorsCacheTransaction) (b : Book) → Stands tables area t b
+    → (k .on-window tables area t .number ≡ k .number area b) × Stands tables area (k .on-window tables area t .state) (enter area k b)
+
+-- 1 on both sides, where question 1 refuses the area
+abbrev pub Refuses : Call → Type 0
+Refuses k = (tables bytes : List ℕ) → length bytes < areaBytes → (t : AnchorsCacheTransaction) (b : Book) → (k .on-window tables bytes t ≡ record { number = 1; state = t }) × (k .number bytes b ≡ 1)
+
+-- what a call owes the book
+pub record Simulates (k : Call) : Type 0 where
+  pub follows : (tables area : List ℕ) → areaBytes ≤ length area → Follows tables area k
+  pub refuses : Refuses k
+
+-- a call that is lent an area which question 1 refuses follows, whatever it does on others: so a close may stand in the
+-- list
+pub short-follows : (k : Call) → Refuses k → (bytes : List ℕ) (p : length bytes < areaBytes) (tables area : List ℕ) → Follows tables area (lend (short bytes p) k)
+unfolding enter
+short-follows k r bytes p tables area t b s = let q = r tables bytes p t b in rw (q .0, q .1) (refl, s)
+
+pub lent-follows : (k : Call) → Simulates k → (a : Area) (tables area : List ℕ) → areaBytes ≤ length area → Follows tables area (lend a k)
+lent-follows k m same tables area big = m .follows tables area big
+lent-follows k m (short bytes p) tables area big = short-follows k (m .refuses) bytes p tables area
+
+-- ---- the calls of the cache
+module _ (tables area : List ℕ) (big : areaBytes ≤ length area) (t : AnchorsCacheTransaction) (b : Book) (s : Stands tables area t b) where
+  abbrev places : ℕ
+  places = placesIn (length area)
+
+  abbrev Next : Call → Type 0
+  Next k = (k .on-window tables area t .number ≡ k .number area b) × Stands tables area (k .on-window tables area t .state) (enter area k b)
+
+  stands-by : (k : ℕ) (u : AnchorsCacheTransaction) (c : Book) → Stands tables area u c → Stands tables area (onZero k u t) (onZero k c b)
+  stands-by zero u c p = p
+  stands-by (suc k) u c p = s
+
+  pop-next : Next popping
+  unfolding enter popCall popAnswer popTimes
+  pop-next =
+      rw (accepted tables area big t b s, book-accepts tables area big t b s 0) (
+        refl,
+        record {
+          is-open = s .is-open;
+          now-ok = popped-parts places tables (t .cache) (s .now-ok);
+          then-ok = s .then-ok;
+          present = view-popped tables area (t .cache) ∙ ap popFront (s .present);
+          opening = s .opening;
+          mark = s .mark;
+        },
+      )
+
+  pops-next : (n : ℕ) → Next (poppingMany n)
+  unfolding enter popsCall answer
+  pops-next n =
+      rw (accepted tables area big t b s, book-accepts tables area big t b s 0) (
+        refl,
+        record {
+          is-open = s .is-open;
+          now-ok = times-parts places tables n (t .cache) (s .now-ok);
+          then-ok = s .then-ok;
+          present = view-popped-times n tables area (t .cache) ∙ ap (popTimes n) (s .present);
+          opening = s .opening;
+          mark = s .mark;
+        },
+      )
+
+  trim-next : (ct : ℕ) → Next (trimming ct)
+  unfolding enter trimCall trimAnswer
+  trim-next ct =
+      rw (accepted tables area big t b s, book-accepts tables area big t b s 0) (
+        refl,
+        record {
+          is-open = s .is-open;
+          now-ok = trimmed-parts places tables ct (t .cache) (s .now-ok);
+          then-ok = s .then-ok;
+          present = view-trimmed tables area ct (t .cache) ∙ ap (trim ct) (s .present);
+          opening = s .opening;
+          mark = s .mark;
+        },
+      )
+
+  -- a read enters as the pops that the rules make
+  reading-next : (r : Reading) → Next (reading (r .number) (r .pops) (r .on-window))
+  unfolding enter answer
+  reading-next r =
+      let e = r .agrees tables area t (s .is-open) big (whole places tables (t .cache) (s .now-ok)) (whole places tables (t .undo) (s .then-ok)) in
+      let n : r .number area (view tables area (t .cache)) (view tables area (t .undo)) ≡ r .number area (b .present) (b .opening) = rw (s .present, s .opening) in
+      let m : r .pops area (view tables area (t .cache)) ≡ r .pops area (b .present) = ap (r .pops area) (s .present) in
+      let k = r .pops area (b .present) in
+      rw (e, n, m) (
+        refl,
+        stands-by (r .number area (b .present) (b .opening)) (withCache t (poppedTimes k tables (t .cache))) (record { opening = b .opening; present = popTimes k (b .present); mark = b .mark })
+            (record {
+              is-open = s .is-open;
+              now-ok = times-parts places tables k (t .cache) (s .now-ok);
+              then-ok = s .then-ok;
+              present = view-popped-times k tables area (t .cache) ∙ ap (popTimes k) (s .present);
+              opening = s .opening;
+              mark = s .mark;
+            }),
+      )
+
+  commit-next : Next committing
+  unfolding enter commitCall answer
+  commit-next =
+      rw (accepted-at tables area big t b s true, book-accepts tables area big t b s 0)
+      (refl, record { is-open = s .is-open; now-ok = s .now-ok; then-ok = s .then-ok; present = s .present; opening = s .opening; mark = refl })
+
+  rollback-next : Next rollingBack
+  unfolding enter rollbackCall answer
+  rollback-next =
+      rw (accepted-at tables area big t b s true, book-accepts tables area big t b s 0)
+      (refl, record { is-open = s .is-open; now-ok = s .then-ok; then-ok = s .then-ok; present = s .opening; opening = s .opening; mark = s .mark })
+
+  add-next : (m : MempoolAnchor) (ours : ℕ) (messages : List ℕ) → Next (adding m ours messages)
+  unfolding enter addCall answer
+  add-next m ours messages =
+      let k = length messages in
+      let x = bookAdd (m .id) ours k (b .present) 9 in
+      rw (add-number tables area big t b s (m .id) ours k, book-accepts tables area big t b s x) (refl, rw (add-never (m .id) ours k (b .present) _ t, on-self x b) s)
+
+  open-next : Next opening
+  unfolding enter openCall answer
+  open-next = rw (accepted-at tables area big t b s false, book-accepts tables area big t b s 9) (refl, s)
+
+  clear-next : Next clearing
+  unfolding enter clearCall answer
+  clear-next = rw (accepted-at tables area big t b s false, book-accepts tables area big t b s 9) (refl, s)
+
+module _ (tables bytes : List ℕ) (few : length bytes < areaBytes) (t : AnchorsCacheTransaction) where
+  abbrev One : Call → Type 0
+  One k = k .on-window tables bytes t ≡ record { number = 1; state = t }
+
+  pop-1 : One popping
+  unfolding popCall popAnswer
+  pop-1 = rw (short-refusal (length bytes) few tables t)
+
+  pops-1 : (n : ℕ) → One (poppingMany n)
+  unfolding popsCall answer
+  pops-1 n = rw (short-refusal (length bytes) few tables t)
+
+  trim-1 : (ct : ℕ) → One (trimming ct)
+  unfolding trimCall trimAnswer
+  trim-1 ct = rw (short-refusal (length bytes) few tables t)
+
+  commit-1 : One committing
+  unfolding commitCall answer
+  commit-1 = rw (short-at (length bytes) few tables t true)
+
+  rollback-1 : One rollingBack
+  unfolding rollbackCall answer
+  rollback-1 = rw (short-at (length bytes) few tables t true)
+
+  close-1 : One closing
+  unfolding closeCall answer
+  close-1 = rw (short-at (length bytes) few tables t true)
+
+  open-1 : One opening
+  unfolding openCall answer
+  open-1 = rw (short-at (length bytes) few tables t false)
+
+  clear-1 : One clearing
+  unfolding clearCall answer
+  clear-1 = rw (short-at (length bytes) few tables t false)
+
+  add-1 : (m : MempoolAnchor) (ours : ℕ) (messages : List ℕ) → One (adding m ours messages)
+  unfolding addCall answer
+  add-1 m ours messages = rw (short-add (length bytes) few tables t (m .id) ours (length messages))
+
+pub pop-simulates : Simulates popping
+pop-simulates = record { follows = pop-next; refuses = λ tables bytes few t b. (pop-1 tables bytes few t, short-book (length bytes) few b 0) }
+
+pub pops-simulates : (n : ℕ) → Simulates (poppingMany n)
+pops-simulates n = record { follows = λ tables area big t b s. pops-next tables area big t b s n; refuses = λ tables bytes few t b. (pops-1 tables bytes few t n, short-book (length bytes) few b 0) }
+
+pub trim-simulates : (ct : ℕ) → Simulates (trimming ct)
+trim-simulates ct = record { follows = λ tables area big t b s. trim-next tables area big t b s ct; refuses = λ tables bytes few t b. (trim-1 tables bytes few t ct, short-book (length bytes) few b 0) }
+
+pub reading-simulates : (r : Reading) → Simulates (reading (r .number) (r .pops) (r .on-window))
+reading-simulates r = record { follows = λ tables area big t b s. reading-next tables area big t b s r; refuses = λ tables bytes few t b. r .refused tables bytes t (b .present) (b .opening) few }
+
+pub commit-simulates : Simulates committing
+commit-simulates = record { follows = commit-next; refuses = λ tables bytes few t b. (commit-1 tables bytes few t, short-book (length bytes) few b 0) }
+
+pub rollback-simulates : Simulates rollingBack
+rollback-simulates = record { follows = rollback-next; refuses = λ tables bytes few t b. (rollback-1 tables bytes few t, short-book (length bytes) few b 0) }
+
+pub add-simulates : (m : MempoolAnchor) (ours : ℕ) (messages : List ℕ) → Simulates (adding m ours messages)
+add-simulates m ours messages =
+    record {
+      follows = λ tables area big t b s. add-next tables area big t b s m ours messages;
+      refuses = λ tables bytes few t b. (add-1 tables bytes few t m ours messages, short-book (length bytes) few b (bookAdd (m .id) ours (length messages) (b .present) 9));
+    }
+
+pub open-simulates : Simulates opening
+open-simulates = record { follows = open-next; refuses = λ tables bytes few t b. (open-1 tables bytes few t, short-book (length bytes) few b 9) }
+
+pub clear-simulates : Simulates clearing
+clear-simulates = record { follows = clear-next; refuses = λ tables bytes few t b. (clear-1 tables bytes few t, short-book (length bytes) few b 9) }
+
+pub close-refuses : Refuses closing
+close-refuses tables bytes few t b = (close-1 tables bytes few t, short-book (length bytes) few b 0)
+
+-- ---- lists of calls
+module _ (tables area : List ℕ) (big : areaBytes ≤ length area) where
+  steps : {K : Type 0} (call : K → Call) → ((k : K) → Follows tables area (call k)) → (ks : List K) (t : AnchorsCacheTransaction) (b : Book) → Stands tables area t b
+      → (numbers tables area (map call ks) t ≡ bookNumbers area (map call ks) b) × Stands tables area (performed tables area (map call ks) t) (entered area (map call ks) b)
+  unfolding numbers bookNumbers performed entered
+  steps call each [] t b s = (refl, s)
+  steps call each (k ∷ ks) t b s =
+      let p = each k t b s in
+      let q = steps call each ks (call k .on-window tables area t .state) (enter area (call k) b) (p .1) in
+      (rw (p .0) (ap (λ (l : List ℕ). call k .number area b ∷ l) (q .0)), q .1)
+
+  closed : (u : AnchorsCacheTransaction) (b : Book) → Stands tables area u b → (closeCall (length area) tables u .number ≡ 0) × (view tables area (closeCall (length area) tables u .state .cache) ≡ finish b)
+  unfolding closeCall answer
+  closed u b s = rw (accepted-at tables area big u b s true) (refl, fin (u .committed) ∙ ap (λ (m : Bool). pick m (b .present) (b .opening)) (s .mark))
+    where
+      fin : (m : Bool) → view tables area (pick m (u .cache) (u .undo)) ≡ pick m (b .present) (b .opening)
+      fin true = s .present
+      fin false = s .opening
+
+opened : (tables area : List ℕ) (t : AnchorsCacheTransaction) → refusal (length area) tables t ≡ 0 → refusalAt false (length area) tables t ≡ 0
+    → Stands tables area (openCall (length area) tables t .state) (begin (view tables area (t .cache)))
+unfolding openCall answer
+opened tables area t z e =
+    let p = valid-parts (placesIn (length area)) tables t (refusal-zero (length area) tables t z .1) in
+    rw e (record { is-open = refl; now-ok = p; then-ok = p; present = refl; opening = refl; mark = refl })
+
+-- an open that answers 0 was refused by none of questions 1 and 5
+pub open-asked : (n : ℕ) (tables : List ℕ) (t : AnchorsCacheTransaction) → refusalAt false n tables t ≡ 0 → refusal n tables t ≡ 0
+open-asked n tables t e = go (refusal n tables t) refl
+  where
+    go : (m : ℕ) → refusal n tables t ≡ m → m ≡ 0
+    go zero h = refl
+    go (suc m) h = sym h ∙ (sym (at-refused n tables t false (λ (f : refusal n tables t ≡ 0). omega arith)) ∙ e)
+
+-- Any cache and area for which the questions give open the number 0, any list of calls that follow the book, then a
+-- close with the area of the run:
+-- each number is the book's, the close answers 0, and the cache is the book's.
+pub the-book : {K : Type 0} (call : K → Call) → ((k : K) (tables area : List ℕ) → areaBytes ≤ length area → Follows tables area (call k))
+    → (tables area : List ℕ) (t : AnchorsCacheTransaction) (ks : List K) → openCall (length area) tables t .number ≡ 0
+    → let u = openCall (length area) tables t .state in
+    let d = closeCall (length area) tables (performed tables area (map call ks) u) in
+    let b = begin (view tables area (t .cache)) in
+    (numbers tables area (map call ks) u ≡ bookNumbers area (map call ks) b) × (d .number ≡ 0) × (view tables area (d .state .cache) ≡ finish (entered area (map call ks) b))
+unfolding openCall answer
+the-book call each tables area t ks e =
+    let z = open-asked (length area) tables t e in
+    let big = refusal-zero (length area) tables t z .0 in
+    let b = begin (view tables area (t .cache)) in
+    let p = steps tables area big call (λ k. each k tables area big) ks (openCall (length area) tables t .state) b (opened tables area t z e) in
+    let q = closed tables area big (performed tables area (map call ks) (openCall (length area) tables t .state)) (entered area (map call ks) b) (p .1) in
+    (p .0, q .0, q .1)
+
+-- The tables are one list for the whole run: an add in it is refused, and its contract writes tables and area only on
+-- number 0.
+pub an-add-in-the-list-writes-nothing : {A : Type 0} (tables area : List ℕ) → areaBytes ≤ length area → (t : AnchorsCacheTransaction) (b : Book) → Stands tables area t b
+    → (id ours k : ℕ) (x y : A) → onZero (addNumber (length area) tables t id ours k) x y ≡ y
+an-add-in-the-list-writes-nothing tables area big t b s id ours k x y =
+    ap (λ (n : ℕ). onZero n x y) (add-number tables area big t b s id ours k) ∙ add-never id ours k (b .present) x y

@@ -1,4 +1,0 @@
-pub mod Entered
-pub mod Laws
-pub mod Conservation
-pub mod Eleven

@@ -1,6 +1,0 @@
-pub mod Turns
-pub mod Entered
-pub mod DemandThree
-pub mod Laws
-pub mod Conservation
-pub mod TableOfEight

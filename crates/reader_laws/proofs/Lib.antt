@@ -1,0 +1,5 @@
+pub mod Entered
+pub mod DemandThree
+pub mod Laws
+pub mod Conservation
+pub mod TableOfEight

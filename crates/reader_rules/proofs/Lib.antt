@@ -1,0 +1,4 @@
+pub mod AllRanges
+pub mod Each
+pub mod Finalize
+pub mod Turns

@@ -1,0 +1,4 @@
+pub mod Each
+pub mod State
+pub mod Rules
+pub mod Offsets

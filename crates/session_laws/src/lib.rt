@@ -1,0 +1,1 @@
+// No code: document 01's sample session, run by computing its definitions.

@@ -1,0 +1,9 @@
+pub mod Printed
+pub mod AfterBad
+pub mod DoBytes
+pub mod OneRouteMore
+pub mod LongRecords
+pub mod TextLengths
+pub mod Ranges
+pub mod Texts
+pub mod LongSteps

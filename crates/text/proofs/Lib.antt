@@ -1,0 +1,4 @@
+pub mod Laws
+pub mod Decimals
+pub mod Lengths
+pub mod Examples
