@@ -91,6 +91,16 @@ def constants(text):
     return {n: v.replace('_', '') for n, v in re.findall(r'const (\w+): \w+ = ([\d_]+);', text)}
 
 
+def in_scope(text):
+    """The constants that a file declares, and those of other crates that it names by `use`."""
+    found = constants(text)
+    for crate, name in re.findall(r'use (\w+)::([A-Z][A-Z0-9_]*);', text):
+        path = CRATES / crate / 'src' / 'lib.rt'
+        if path.exists():
+            found.update((n, v) for n, v in constants(read(path)).items() if n == name)
+    return found
+
+
 def sized(ty, known):
     """The type with each array's length as a number."""
     return re.sub(r'; (\w+)\]', lambda m: f'; {known.get(m.group(1), m.group(1))}]', ty)
@@ -114,7 +124,8 @@ STRUCT = r'pub struct (\w+)\s*(\{.*?\}|\(.*?\);)'
 
 
 def structs_in(text, pattern):
-    return [(name, fields(body.rstrip(';'), constants(text))) for name, body in re.findall(pattern, text, re.S)]
+    known = in_scope(text)
+    return [(name, fields(body.rstrip(';'), known)) for name, body in re.findall(pattern, text, re.S)]
 
 
 def lent(parameters):

@@ -60,7 +60,7 @@ validCache places tables c =
     && (leb (c .base + total (anchorsOf tables c)) places
     && sameBool (c .pending) (ltb 0 (c .len)))))))
 
--- a window is its six numbers
+-- a window is its five numbers and its flag
 unfoldable pub sameWindow : AnchorsCache → AnchorsCache → Bool
 sameWindow a b =
     eqb (a .first) (b .first)

@@ -60,7 +60,7 @@ trimmedCache ct tables c =
 abbrev pub noCache : AnchorsCache
 noCache = record { first = 0; len = 0; «history_first» = 0; «history_len» = 0; base = 0; pending = false }
 
--- ---- add: the new rows stand behind the windows, which move down to their tables' start where there is no room behind them
+-- ---- add: the new rows stand behind the windows, which move down to their tables' start where no room is behind them
 unfoldable pub inHistory : AnchorsCache → AnchorsCache
 inHistory c =
     record {

@@ -158,7 +158,7 @@ pub fn new() -> AnchorsCacheTransaction
     }
 }
 
-// The same six numbers.
+// The same five numbers and flag.
 pub fn same_window(a: AnchorsCache, b: AnchorsCache) -> bool
     ensures { λ r. ⌜ r ≡ sameWindow a b ⌝ }
 {

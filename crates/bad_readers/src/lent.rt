@@ -124,16 +124,10 @@ fn is_read(reader: ExternalsReader, i: usize) -> bool {
     range.fully_read
 }
 
-pub fn write_front(line: &[u8], at: usize) {
-    if at <= line.len() {
-        io::write_all(1, &line[0..at]);
-    }
-}
-
 fn print_line(name: &[u8], numbers: &[u64]) {
     let mut line = [0u8; 256];
     let at = text::put_line(&mut line, 0, name, numbers);
-    write_front(&line, at);
+    streams::write_front(&line, at);
 }
 
 // What a read leaves: its number, the mark, how many ranges there are, and whether the last is fully read.

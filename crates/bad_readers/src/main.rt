@@ -16,7 +16,7 @@ fn put_answer(line: &mut [u8; 512], at: usize, number: u8) -> usize {
 // The end of a line is put, and the line is written.
 fn print_end(line: &mut [u8; 512], at: usize) {
     let end = text::put(line, at, b"\n");
-    lent::write_front(line, end);
+    streams::write_front(line, end);
 }
 
 // The line of a case: its name and the numbers of the calls.

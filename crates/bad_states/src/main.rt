@@ -191,15 +191,9 @@ fn put_adds(out: &mut [u8; 16384], at: usize) -> usize {
     put_add(out, f, b"add_ours_above_count_last_id", anchor(3, 2, 33))
 }
 
-fn write_front(out: &[u8], at: usize) {
-    if at <= out.len() {
-        io::write_all(1, &out[0..at]);
-    }
-}
-
-// A part can be taken of a slice, not of an array behind a reference.
+// It takes the array: that a slice of it has its length is known here, and not behind the calls of `main`.
 fn write(out: &[u8; 16384], at: usize) {
-    write_front(out, at);
+    streams::write_front(out, at);
 }
 
 fn main() {

@@ -1,29 +1,175 @@
 -- Laws of the search in route records, and that it answers as the router does on rows of 34 bytes.
 use Prim.Native.Nat.{ℕ, zero, suc, _+_, _-_, _*_, _/_, _<_, _≤_}
 use mathlib.Core.Path.{_≡_, refl, sym, _∙_, ap, subst}
-use mathlib.Core.Bool.{Bool, true, false}
+use mathlib.Core.Bool.{Bool, true, false, not, _&&_}
 use mathlib.Core.List.{List, [], _∷_, _++_, map}
 use native.Mathlib.Omega.{arith}
+use native.Mathlib.Numerals.{add-one}
 use lib.Dec.{eqb, ltb}
 use lib.IntN.{ℤ, pos, negsuc}
-use lib.ListN.{length, getD, take, drop, length-drop, length-append}
-use lib.Seq.{take-length, drop-cons, getD-drop, take-at, drop-at, getD-at}
+use lib.ListN.{length, getD, take, drop, set, length-set, length-take, length-drop, length-append, drop-of-length-le}
+use lib.Seq.{take-length, drop-cons, getD-drop, getD-take, length-take-le, take-suc-set, take-at, drop-at, getD-at}
 use mir.Syntax.{w8}
 use mir.Val.{SFits}
-use borrow.Author.Tests.{eq-eqb, ne-eqb, eqb-true, eqb-false, ltb-true, ltb-false, lt-ltb, le-ltb}
+use borrow.Author.Tests.{eq-eqb, ne-eqb, eqb-true, eqb-false, ltb-true, ltb-false, lt-ltb, le-ltb, lt-leb, le-leb}
 use Rattle.rows.specs.Rows.{pick, sameBytes, startsWith, rows}
-use Rattle.rows.proofs.Laws.{pick-yes, pick-no}
+use Rattle.rows.proofs.Laws.{pick-yes, pick-no, never}
 use Rattle.shard_ident.specs.Shard.{signedByte, equalℤ}
-use Rattle.router.specs.Router.{routePartition, routesNumber, firstPartition, unlessRefused, getPartition, partitionOf as rowsPartition}
-use Rattle.by_reference.specs.Search.{sameRoute, firstPartitionIn, routeOf, routesOf, byteOf, routeRow, rowsOf}
+use Rattle.router.specs.Router.{maxRoutes, routePartition, routesNumber, firstPartition, unlessRefused, getPartition, partitionOf as rowsPartition}
+use Rattle.by_reference.specs.Search.{sameRoute, firstPartitionIn, listedIn, takesOne, takesAll, recordsNumber, getPartitionIn, nothingWalked, takesRoute, withRoute, refusedWalk, walkedOn, walkedOver, walkAnswer, routeOf, routesOf, byteOf, routeRow, rowsOf}
 use Rattle.by_reference.specs.declared.Route.{Route}
+use Rattle.by_reference.specs.declared.Walk.{Walk}
 
 -- what stands past the end of a list
 abbrev pub noRoute : Route
 noRoute = record { workchain = pos 0; account = []; partition = 0 }
 
-pub route-step : (l : List Route) (w : ℤ) (a : List ℕ) (i : ℕ) → i < length l → firstPartitionIn (drop i l) w a ≡ pick (sameRoute (getD l i noRoute) w a) (getD l i noRoute .partition) (firstPartitionIn (drop (suc i) l) w a)
-route-step l w a i h = ap (λ (x : List Route). firstPartitionIn x w a) (drop-cons l i noRoute h)
+pub walk-step : (w : ℤ) (a : List ℕ) (s : Walk) (l : List Route) (i : ℕ) → i < length l → walkedOver w a s (drop i l) ≡ walkedOver w a (walkedOn w a s (getD l i noRoute)) (drop (suc i) l)
+walk-step w a s l i h = ap (walkedOver w a s) (drop-cons l i noRoute h)
+
+-- ---- among the first records
+module _ (w : ℤ) (a : List ℕ) (l : List Route) (n i : ℕ) where
+  listed-step : i < n → n ≤ length l → listedIn w a (drop i (take n l)) ≡ pick (sameRoute (getD l i noRoute) w a) true (listedIn w a (drop (suc i) (take n l)))
+  unfolding listedIn
+  listed-step h k =
+      ap (listedIn w a) (drop-cons (take n l) i noRoute (omega (arith, h, k, length-take n l)))
+      ∙ ap (λ (r : Route). pick (sameRoute r w a) true (listedIn w a (drop (suc i) (take n l)))) (getD-take n l i noRoute h)
+
+  pub listed-here : i < n → n ≤ length l → sameRoute (getD l i noRoute) w a ≡ true → listedIn w a (drop i (take n l)) ≡ true
+  listed-here h k e = listed-step h k ∙ pick-yes _ _ _ e
+
+  pub listed-behind : i < n → n ≤ length l → sameRoute (getD l i noRoute) w a ≡ false → listedIn w a (drop (i + 1) (take n l)) ≡ listedIn w a (drop i (take n l))
+  listed-behind h k e = ap (λ (j : ℕ). listedIn w a (drop j (take n l))) (add-one i) ∙ sym (listed-step h k ∙ pick-no _ _ _ e)
+
+  pub listed-end : n ≤ i → listedIn w a (drop i (take n l)) ≡ false
+  unfolding listedIn
+  listed-end h = ap (listedIn w a) (drop-of-length-le (take n l) {i = i} (omega (arith, h, length-take n l)))
+
+-- ---- question 3 of one record more
+and-no : (b : Bool) → false ≡ b && false
+and-no true = refl
+and-no false = refl
+
+module _ (w : Walk) (r : Route) where
+  pub not-sound : w .sound ≡ false → false ≡ takesRoute w r
+  unfolding takesRoute
+  not-sound e = rw e
+
+  pub too-many : maxRoutes ≤ w .len → false ≡ takesRoute w r
+  unfolding takesRoute
+  too-many h = rw (le-ltb (w .len) maxRoutes h) (and-no (w .sound))
+
+  pub too-high : 7 < r .partition → false ≡ takesRoute w r
+  unfolding takesRoute
+  too-high h = rw (lt-leb (r .partition) 7 h) (and-no (w .sound) ∙ ap (λ (b : Bool). w .sound && b) (and-no (ltb (w .len) maxRoutes)))
+
+  pub asked-of-one : w .sound ≡ true → w .len < maxRoutes → r .partition ≤ 7 → not (listedIn (r .workchain) (r .account) (take (w .len) (w .routes))) ≡ takesRoute w r
+  unfolding takesRoute
+  asked-of-one e h k = rw (e, lt-ltb (w .len) maxRoutes h, le-leb (r .partition) 7 k)
+
+module _ (z : ℤ) (a : List ℕ) (w : Walk) (r : Route) where
+  pub is-not-taken : takesRoute w r ≡ false → refusedWalk w ≡ walkedOn z a w r
+  unfolding walkedOn
+  is-not-taken e = rw e
+
+  module _ (taken : takesRoute w r ≡ true) where
+    pub was-found : w .found ≡ true → withRoute w r true (w .partition) ≡ walkedOn z a w r
+    unfolding walkedOn
+    was-found e = rw (taken, e)
+
+    pub is-the-first : w .found ≡ false → sameRoute r z a ≡ true → withRoute w r true (r .partition) ≡ walkedOn z a w r
+    unfolding walkedOn
+    is-the-first e h = rw (taken, e) (sym (pick-yes _ _ _ h))
+
+    pub is-another : w .found ≡ false → sameRoute r z a ≡ false → withRoute w r false (w .partition) ≡ walkedOn z a w r
+    unfolding walkedOn
+    is-another e h = rw (taken, e) (sym (pick-no _ _ _ h))
+
+pub few-so-far : (w : Walk) (r : Route) → takesRoute w r ≡ true → w .len < maxRoutes
+unfolding takesRoute
+few-so-far w r e = ltb-true (w .len) maxRoutes (go (w .sound) (ltb (w .len) maxRoutes) _ e)
+  where
+    go : (x y k : Bool) → (x && (y && k)) ≡ true → y ≡ true
+    go true true k h = refl
+    go true false k h = h
+    go false y k h = never (sym h)
+
+-- ---- the whole walk
+module _ (z : ℤ) (a : List ℕ) where
+  -- a record more is one of four cases
+  walk-cases : (P : Walk → Type 0) (w : Walk) (r : Route) → (takesRoute w r ≡ false → P (refusedWalk w)) → (takesRoute w r ≡ true → w .found ≡ true → P (withRoute w r true (w .partition)))
+      → (takesRoute w r ≡ true → w .found ≡ false → sameRoute r z a ≡ true → P (withRoute w r true (r .partition))) → (takesRoute w r ≡ true → w .found ≡ false → sameRoute r z a ≡ false → P (withRoute w r false (w .partition)))
+      → P (walkedOn z a w r)
+  walk-cases P w r none found one other = go (takesRoute w r) (w .found) (sameRoute r z a) refl refl refl
+    where
+      go : (t f e : Bool) → takesRoute w r ≡ t → w .found ≡ f → sameRoute r z a ≡ e → P (walkedOn z a w r)
+      go false f e x y k = subst P (is-not-taken z a w r x) (none x)
+      go true true e x y k = subst P (was-found z a w r x y) (found x y)
+      go true false true x y k = subst P (is-the-first z a w r x y k) (one x y k)
+      go true false false x y k = subst P (is-another z a w r x y k) (other x y k)
+
+  stays-refused : (w : Walk) (l : List Route) → w .sound ≡ false → walkedOver z a w l .sound ≡ false
+  stays-refused w [] e = e
+  stays-refused w (r ∷ l) e = subst (λ (v : Walk). walkedOver z a v l .sound ≡ false) (is-not-taken z a w r (sym (not-sound w r e))) (stays-refused (refusedWalk w) l refl)
+
+  takes-one : (w : Walk) (r : Route) (before : List Route) → take (w .len) (w .routes) ≡ before → length before ≡ w .len → w .sound ≡ true → takesRoute w r ≡ takesOne before r
+  unfolding takesRoute takesOne
+  takes-one w r before e n s = rw (s, e, n)
+
+  -- the walk takes all records exactly if question 3 does
+  sound-over : (w : Walk) (before l : List Route) → take (w .len) (w .routes) ≡ before → length (w .routes) ≡ maxRoutes → w .len ≤ maxRoutes → w .sound ≡ true → walkedOver z a w l .sound ≡ takesAll before l
+  unfolding takesAll
+  sound-over w before [] e n h s = s
+  sound-over w before (r ∷ l) e n h s =
+      walk-cases (λ (v : Walk). walkedOver z a v l .sound ≡ (takesOne before r && takesAll (before ++ (r ∷ [])) l)) w r
+      (λ x. stays-refused (refusedWalk w) l refl ∙ sym (ap (λ (b : Bool). b && takesAll (before ++ (r ∷ [])) l) (sym one ∙ x)))
+      (λ x y. sound-over (withRoute w r true (w .partition)) (before ++ (r ∷ [])) l (kept x) full (room x) refl ∙ next x)
+      (λ x y k. sound-over (withRoute w r true (r .partition)) (before ++ (r ∷ [])) l (kept x) full (room x) refl ∙ next x)
+      (λ x y k. sound-over (withRoute w r false (w .partition)) (before ++ (r ∷ [])) l (kept x) full (room x) refl ∙ next x)
+    where
+      long : length before ≡ w .len
+      long = sym (ap length e) ∙ length-take-le (w .len) (w .routes) (omega (arith, n, h))
+
+      one : takesRoute w r ≡ takesOne before r
+      one = takes-one w r before e long s
+
+      full : length (set (w .routes) (w .len) r) ≡ maxRoutes
+      full = length-set (w .routes) (w .len) r ∙ n
+
+      room : takesRoute w r ≡ true → w .len + 1 ≤ maxRoutes
+      room x = omega (arith, few-so-far w r x)
+
+      kept : takesRoute w r ≡ true → take (w .len + 1) (set (w .routes) (w .len) r) ≡ before ++ (r ∷ [])
+      kept x =
+          ap (λ (j : ℕ). take j (set (w .routes) (w .len) r)) (add-one (w .len))
+          ∙ (take-suc-set (w .routes) (w .len) r (omega (arith, n, few-so-far w r x)) ∙ ap (λ (k : List Route). k ++ (r ∷ [])) e)
+
+      next : takesRoute w r ≡ true → takesAll (before ++ (r ∷ [])) l ≡ (takesOne before r && takesAll (before ++ (r ∷ [])) l)
+      next x = sym (ap (λ (b : Bool). b && takesAll (before ++ (r ∷ [])) l) (sym one ∙ x))
+
+  -- and its partition is the first record's
+  partition-over : (w : Walk) (l : List Route) → (w .found ≡ false → w .partition ≡ 0) → walkedOver z a w l .sound ≡ true → walkedOver z a w l .partition ≡ pick (w .found) (w .partition) (firstPartitionIn l z a)
+  partition-over w [] zero-yet s = go (w .found) refl
+    where
+      go : (f : Bool) → w .found ≡ f → w .partition ≡ pick f (w .partition) 0
+      go true e = refl
+      go false e = zero-yet e
+  partition-over w (r ∷ l) zero-yet sound =
+      walk-cases (λ (v : Walk). walkedOver z a v l .sound ≡ true → walkedOver z a v l .partition ≡ pick (w .found) (w .partition) (firstPartitionIn (r ∷ l) z a)) w r
+      (λ x s. never (sym s ∙ stays-refused (refusedWalk w) l refl))
+      (λ x y s. partition-over (withRoute w r true (w .partition)) l (λ n. never n) s ∙ sym (pick-yes _ _ _ y))
+      (λ x y k s. partition-over (withRoute w r true (r .partition)) l (λ n. never n) s ∙ sym (pick-no _ _ _ y ∙ pick-yes _ _ _ k))
+      (λ x y k s. partition-over (withRoute w r false (w .partition)) l (λ n. zero-yet y) s ∙ sym (pick-no _ _ _ y ∙ pick-no _ _ _ k))
+      sound
+
+  -- The walk over records answers as the router's rule over them.
+  pub the-walk-answers-as-the-rule : (l : List Route) → walkAnswer (walkedOver z a nothingWalked l) ≡ getPartitionIn l z a
+  unfolding getPartitionIn recordsNumber unlessRefused nothingWalked
+  the-walk-answers-as-the-rule l = go (takesAll [] l) (sound-over nothingWalked [] l refl refl (omega arith) refl)
+    where
+      go : (b : Bool) → walkedOver z a nothingWalked l .sound ≡ b → walkAnswer (walkedOver z a nothingWalked l) ≡ unlessRefused (pick b 0 3) (firstPartitionIn l z a)
+      go true e = ap (λ (b : Bool). pick b (record { number = 0; value = walkedOver z a nothingWalked l .partition }) (record { number = 3; value = 0 })) e ∙ ap (λ (p : ℕ). record { number = 0; value = p }) (partition-over nothingWalked l (λ n. refl) e)
+      go false e = ap (λ (b : Bool). pick b (record { number = 0; value = walkedOver z a nothingWalked l .partition }) (record { number = 3; value = 0 })) e
 
 -- ---- one route
 equal-self : (a : ℤ) → equalℤ a a ≡ true

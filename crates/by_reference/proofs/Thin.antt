@@ -280,7 +280,8 @@ module _ {M : Type 1} {𝓤 : URA M} {H : Heap 𝓤} {A : Atoms 𝓤} (W : Given
         read-in Γ′ (qed W (j ∷ Cells (seconds ws) ms (second-vals ws xs) ∷ Cells (way-tys ws) bs (way-vals ws xs) ∷ Γ) ∵ move ! (1 ∷ 2 ∷ 0 ∷ []) $ done !) (qed W Γ′ ∵ move ! (2 ∷ 0 ∷ 1 ∷ []) $ done !)
         (read-all c h ws bs ms xs i m f g (j ∷ Γ) (suc n) e)
 
--- ---- a result of core, as a walk sees it: its two parts, that its machine value is the struct of theirs, and what is known of it and of them
+-- ---- a result of core, as a walk sees it: its two parts, that its machine value is the struct of theirs, and what is
+-- known of it and of them
 pub record Result (T : Declared) (L : LL.Laws T) (τS : Ty) (ν : Sym) : Type 2 where
   pub row-of : RattleType
   pub answers : RattleType
@@ -379,7 +380,8 @@ module _ (T : Declared) (L : LL.Laws T) (pl : Plains (fields T)) (τS : Ty) (ν 
       move ! (6 ∷ 7 ∷ []) $ free1 ! $ free0 ! $
       keep ! (0 ∷ 1 ∷ 2 ∷ 4 ∷ 5 ∷ []) $ by ! (exits r z (O .answer-is r u is) e))))))))))))))))))
 
--- ---- a parameter behind t. Its type is the same for f and for core, but that f's MIR counts t's lifetime first: `above` is the type as f's MIR has it, and `exits` what a contract can learn of it there
+-- ---- a parameter behind t. Its type is the same for f and for core, but that f's MIR counts t's lifetime first:
+-- `above` is the type as f's MIR has it, and `exits` what a contract can learn of it there
 pub record Param (n : ℕ) : Type 2 where
   pub row : Lfts n → RattleType
   pub above : Lfts n → RattleType

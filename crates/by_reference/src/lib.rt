@@ -1,14 +1,19 @@
 // Calls that take a struct by reference, and a search in a slice of structs: thin functions over calls that go by
 // value.
 ghost use mathlib.Core.Path.{_≡_};
-ghost use lib.ListN.{length};
+ghost use lib.ListN.{length, take};
 ghost use Rattle.anchors_cache.specs.Calls.{popCall, trimCall, openCall, commitCall, rollbackCall, closeCall};
 ghost use Rattle.by_reference.specs.Answers.{popAnswerOf, trimAnswerOf, popParted, trimParted, inTurn};
-ghost use Rattle.by_reference.specs.Search.{sameRoute, firstPartitionIn};
+ghost use Rattle.by_reference.specs.Search.{sameRoute, listedIn, nothingWalked, takesRoute, withRoute, refusedWalk, walkedOn, walkAnswer, getPartitionIn};
+ghost use Prim.Native.Nat.{_<_, _≤_};
+ghost use Rattle.router.specs.Router.{answerOf, maxRoutes};
 use anchors_cache::AnchorAnswer;
 use anchors_cache::AnchorsCacheTransaction;
 use anchors_cache::InfoAnswer;
 use ext_types::ChainTime;
+use router::MAX_PARTITION;
+use router::MAX_ROUTES;
+use router::Routed;
 
 // What a thin call answers, and the transaction that it stores: the core's result in two parts.
 pub(crate) struct Popping {
@@ -168,25 +173,144 @@ fn same_route(r: Route, workchain: i8, account: [u8; 32]) -> bool
     rows::starts_with(&a, &account)
 }
 
-// A lent slice of route records, searched in order: the partition of the first for the workchain and the account, else
-// 0.
-pub fn get_partition(routes: &[Route], workchain: i8, account: [u8; 32]) -> u8
-    ensures { λ p. ⌜ p ≡ firstPartitionIn (now (routes .entry)) workchain account ⌝ }
+// What a walk over route records has come to: those so far, whether question 3 takes them, and the partition of the
+// first for the workchain and the account.
+pub(crate) struct Walk {
+    pub routes: [Route; MAX_ROUTES],
+    pub len: usize,
+    pub sound: bool,
+    pub found: bool,
+    pub partition: u8,
+}
+
+fn nothing_walked() -> Walk
+    ensures { λ w. ⌜ w ≡ nothingWalked ⌝ }
+{
+    let none = Route {
+        workchain: 0,
+        account: [0u8; 32],
+        partition: 0,
+    };
+    Walk {
+        routes: [none; MAX_ROUTES],
+        len: 0,
+        sound: true,
+        found: false,
+        partition: 0,
+    }
+}
+
+fn same_address(q: Route, r: Route) -> bool
+    ensures { λ b. ⌜ b ≡ sameRoute q (r .workchain) (r .account) ⌝ }
+{
+    let account = r.account;
+    same_route(q, r.workchain, account)
+}
+
+// Whether the record's address is among the first of the routes.
+fn is_listed(routes: [Route; MAX_ROUTES], len: usize, r: Route) -> bool
+    requires { ⌜ len ≤ maxRoutes ⌝ }
+    ensures { λ b. ⌜ b ≡ listedIn (r .workchain) (r .account) (take len routes) ⌝ }
 {
     let mut i = 0;
-    while i < routes.len() {
-        let r = routes[i];
-        if same_route(r, workchain, account) {
-            return r.partition;
+    while i < len {
+        let q = routes[i];
+        if same_address(q, r) {
+            return true;
         }
         i += 1;
     }
-    0
+    false
+}
+
+fn is_taken(w: Walk, r: Route) -> bool
+    ensures { λ b. ⌜ b ≡ takesRoute w r ⌝ }
+{
+    if !w.sound {
+        return false;
+    }
+    if MAX_ROUTES <= w.len {
+        return false;
+    }
+    if MAX_PARTITION < r.partition {
+        return false;
+    }
+    let routes = w.routes;
+    !is_listed(routes, w.len, r)
+}
+
+fn with_route(w: Walk, r: Route, found: bool, partition: u8) -> Walk
+    requires { ⌜ w .len < maxRoutes ⌝ }
+    ensures { λ v. ⌜ v ≡ withRoute w r found partition ⌝ }
+{
+    let mut routes = w.routes;
+    let len = w.len;
+    routes[len] = r;
+    Walk {
+        routes: routes,
+        len: len + 1,
+        sound: true,
+        found: found,
+        partition: partition,
+    }
+}
+
+fn not_taken(w: Walk) -> Walk
+    ensures { λ v. ⌜ v ≡ refusedWalk w ⌝ }
+{
+    let routes = w.routes;
+    Walk {
+        routes: routes,
+        len: w.len,
+        sound: false,
+        found: w.found,
+        partition: w.partition,
+    }
+}
+
+// One record more.
+fn walked(w: Walk, r: Route, workchain: i8, account: [u8; 32]) -> Walk
+    ensures { λ v. ⌜ v ≡ walkedOn workchain account w r ⌝ }
+{
+    if !is_taken(w, r) {
+        return not_taken(w);
+    }
+    if w.found {
+        return with_route(w, r, true, w.partition);
+    }
+    if same_route(r, workchain, account) {
+        return with_route(w, r, true, r.partition);
+    }
+    with_route(w, r, false, w.partition)
+}
+
+fn routed(w: Walk) -> Routed
+    ensures { λ r. ⌜ answerOf r ≡ walkAnswer w ⌝ }
+{
+    if !w.sound {
+        return Routed::Refused;
+    }
+    Routed::Partition(w.partition)
+}
+
+// A lent slice of route records, walked in order: refused by question 3, or the partition of the first for the
+// workchain and the account, else 0.
+pub fn get_partition(routes: &[Route], workchain: i8, account: [u8; 32]) -> Routed
+    ensures { λ r. ⌜ answerOf r ≡ getPartitionIn (now (routes .entry)) workchain account ⌝ }
+{
+    let mut w = nothing_walked();
+    let mut i = 0;
+    while i < routes.len() {
+        let r = routes[i];
+        w = walked(w, r, workchain, account);
+        i += 1;
+    }
+    routed(w)
 }
 
 // Lends its own routes, for whoever has them by value.
-pub fn partition_of4(routes: [Route; 4], workchain: i8, account: [u8; 32]) -> u8
-    ensures { λ p. ⌜ p ≡ firstPartitionIn routes workchain account ⌝ }
+pub fn partition_of4(routes: [Route; 4], workchain: i8, account: [u8; 32]) -> Routed
+    ensures { λ r. ⌜ answerOf r ≡ getPartitionIn routes workchain account ⌝ }
 {
     get_partition(&routes, workchain, account)
 }

@@ -7,6 +7,7 @@ use anchors_cache::InfoAnswer;
 use anchors_cache::MempoolAnchor;
 use by_reference::Route;
 use ext_types::ChainTime;
+use router::Routed;
 
 fn put_number(n: u64) {
     let mut digits = [0u8; 20];
@@ -141,29 +142,30 @@ fn route(workchain: i8, byte: u8, partition: u8) -> Route {
     }
 }
 
+// The partition, or the number of the question that refuses the routes.
+fn put_routed(routed: Routed) {
+    let Routed::Partition(p) = routed else {
+        put_line(b"refused", 3);
+        return;
+    };
+    put_line(b"partition", p);
+}
+
 fn routed() {
-    let routes = [
+    let mut routes = [
         route(-1, 7, 3),
         route(0, 9, 5),
-        route(0, 9, 6),
+        route(1, 9, 6),
         route(0, 7, 2),
     ];
-    put_line(
-        b"partition",
-        by_reference::partition_of4(routes, -1, [7u8; 32]),
-    );
-    put_line(
-        b"partition",
-        by_reference::partition_of4(routes, 0, [9u8; 32]),
-    );
-    put_line(
-        b"partition",
-        by_reference::partition_of4(routes, 0, [7u8; 32]),
-    );
-    put_line(
-        b"partition",
-        by_reference::partition_of4(routes, -1, [9u8; 32]),
-    );
+    put_routed(by_reference::partition_of4(routes, -1, [7u8; 32]));
+    put_routed(by_reference::partition_of4(routes, 0, [9u8; 32]));
+    put_routed(by_reference::partition_of4(routes, 0, [7u8; 32]));
+    put_routed(by_reference::partition_of4(routes, -1, [9u8; 32]));
+    routes[2] = route(1, 9, 8);
+    put_routed(by_reference::partition_of4(routes, 0, [9u8; 32]));
+    routes[2] = route(0, 9, 6);
+    put_routed(by_reference::partition_of4(routes, -1, [7u8; 32]));
 }
 
 fn main() {

@@ -358,6 +358,14 @@ the-book call each tables area t ks e =
     let q = closed tables area big (performed tables area (map call ks) (openCall (length area) tables t .state)) (entered area (map call ks) b) (p .1) in
     (p .0, q .0, q .1)
 
+-- what an open that answers 0 leaves stands for the book as it begins
+pub opened-stands : (tables area : List ℕ) (t : AnchorsCacheTransaction) → openCall (length area) tables t .number ≡ 0
+    → (areaBytes ≤ length area) × Stands tables area (openCall (length area) tables t .state) (begin (view tables area (t .cache)))
+unfolding openCall answer
+opened-stands tables area t e =
+    let z = open-asked (length area) tables t e in
+    (refusal-zero (length area) tables t z .0, opened tables area t z e)
+
 -- The tables are one list for the whole run: an add in it is refused, and its contract writes tables and area only on
 -- number 0.
 pub an-add-in-the-list-writes-nothing : {A : Type 0} (tables area : List ℕ) → areaBytes ≤ length area → (t : AnchorsCacheTransaction) (b : Book) → Stands tables area t b

@@ -1,23 +1,43 @@
 -- Free bytes: the bytes of no anchor or entry that is cached or restorable by a rollback decide nothing.
-use Prim.Native.Nat.{ℕ, zero, suc, _*_, _/_}
+use Prim.Native.Nat.{ℕ, zero, suc, _+_, _*_, _/_}
 use mathlib.Core.Path.{_≡_, refl, sym, ap, _∙_}
 use mathlib.Core.Bool.{Bool, true, false, _&&_}
 use mathlib.Core.List.{List, [], _∷_, map}
 use lib.ListN.{length, drop}
-use Rattle.rows.specs.Rows.{pick, rows}
+use Rattle.rows.specs.Rows.{pick, part, rows}
 use Rattle.ext_types.specs.declared.ExternalKey.{ExternalKey}
 use Rattle.anchors_cache.specs.declared.AnchorsCache.{AnchorsCache}
 use Rattle.anchors_cache.specs.declared.AnchorsCacheTransaction.{AnchorsCacheTransaction}
 use Rattle.anchors_cache.specs.declared.MempoolAnchor.{MempoolAnchor}
-use Rattle.cache_rules.specs.Rules.{Cache, Row, rowOf, withRow, popFront, trim, trimHistory, addAnchor}
-use Rattle.anchors_cache.specs.Tables.{anchorsOf, historyOf, view}
-use Rattle.anchors_cache.specs.Windows.{poppedBy, poppedCache, poppedTimes, trimmedCache, addedCache, addedTables, addedArea, anyPlaces}
+use Rattle.cache_rules.specs.Rules.{Anchor, Info, Cache, Row, rowOf, withRow, popFront, trim, trimHistory, addAnchor}
+use Rattle.anchors_cache.specs.Tables.{historyBytes, withMessages, anchorsOf, historyOf, view}
+use Rattle.anchors_cache.specs.Windows.{usedBy, poppedBy, poppedCache, poppedTimes, trimmedCache, addedCache, addedTables, addedArea, anyPlaces}
 use Rattle.anchors_cache.specs.Calls.{validCache, valid, refusal, refusalAt, refusalSeen, rowFor, addNumber, addCall, popAnswer, popCall, popsCall, trimAnswer, trimCall, clearCall, openCall, commitCall, rollbackCall, closeCall, lastInfoCall, infoAtCtCall, lastIdCall, getCall, pendingCall, pendingInRangeCall}
 use Rattle.anchors_cache.proofs.Laws.{kept-history, rows-of-messages}
 use Rattle.anchors_cache.proofs.Asked.{add-asks}
 use Rattle.cache_laws.specs.Book.{popTimes}
-use Rattle.cache_laws.proofs.Views.{view-popped, view-popped-times, view-trimmed, view-added}
+use Rattle.cache_laws.proofs.Views.{anchors-of, infos-of, messages-part, view-popped, view-popped-times, view-trimmed, view-added}
 use Rattle.cache_laws.proofs.Kept.{Wide}
+
+-- ---- which bytes are not free
+-- Two tables and two areas have the bytes of a window in common: its history's rows, its anchors' rows, and the
+-- messages of these, 33 bytes each from 33 times the base on. All other bytes are free.
+pub record SameBytes (tables area tables′ area′ : List ℕ) (c : AnchorsCache) : Type 0 where
+  pub history-rows : part (52 * c .«history_first») (52 * c .«history_len») tables ≡ part (52 * c .«history_first») (52 * c .«history_len») tables′
+  pub anchor-rows : part (historyBytes + 50 * c .first) (50 * c .len) tables ≡ part (historyBytes + 50 * c .first) (50 * c .len) tables′
+  pub message-bytes : part (33 * c .base) (33 * usedBy tables c) area ≡ part (33 * c .base) (33 * usedBy tables c) area′
+
+module _ (tables area tables′ area′ : List ℕ) (c : AnchorsCache) where
+  pub bytes-of-no-cached-message-are-free : SameBytes tables area tables′ area′ c → view tables area c ≡ view tables′ area′ c
+  unfolding view
+  bytes-of-no-cached-message-are-free e =
+      let l = anchorsOf tables c in
+      let rows : l ≡ anchorsOf tables′ c = anchors-of (c .first) (c .len) tables tables′ (e .anchor-rows) in
+      let history : historyOf tables c ≡ historyOf tables′ c = infos-of (c .«history_first») (c .«history_len») tables tables′ (e .history-rows) in
+      let messages : withMessages (drop (33 * c .base) area) l ≡ withMessages (drop (33 * c .base) area′) l =
+      messages-part (33 * c .base) area l ∙ (ap (λ (b : List ℕ). withMessages b l) (e .message-bytes) ∙ sym (messages-part (33 * c .base) area′ l)) in
+      ap (λ (m : List Anchor). record { anchors = m; history = historyOf tables c; pending = c .pending }) (messages ∙ ap (withMessages (drop (33 * c .base) area′)) rows)
+      ∙ ap (λ (m : List Info). record { anchors = withMessages (drop (33 * c .base) area′) (anchorsOf tables′ c); history = m; pending = c .pending }) history
 
 -- two tables of one length and two areas of one length that agree on what is cached or restorable by a rollback
 pub record Agree (tables area tables′ area′ : List ℕ) (t : AnchorsCacheTransaction) : Type 0 where
@@ -25,6 +45,17 @@ pub record Agree (tables area tables′ area′ : List ℕ) (t : AnchorsCacheTra
   pub broad : length area ≡ length area′
   pub now : view tables area (t .cache) ≡ view tables′ area′ (t .cache)
   pub then : t .active ≡ true → view tables area (t .undo) ≡ view tables′ area′ (t .undo)
+
+-- where both have the bytes of what is cached and restorable, they agree, whatever the free bytes are
+pub only-free-bytes-differ : (tables area tables′ area′ : List ℕ) (t : AnchorsCacheTransaction) → length tables ≡ length tables′ → length area ≡ length area′ → SameBytes tables area tables′ area′ (t .cache)
+    → (t .active ≡ true → SameBytes tables area tables′ area′ (t .undo)) → Agree tables area tables′ area′ t
+only-free-bytes-differ tables area tables′ area′ t tall broad now then =
+    record {
+      tall = tall;
+      broad = broad;
+      now = bytes-of-no-cached-message-are-free tables area tables′ area′ (t .cache) now;
+      then = λ a. bytes-of-no-cached-message-are-free tables area tables′ area′ (t .undo) (then a);
+    }
 
 module _ (tables area tables′ area′ : List ℕ) (tall : length tables ≡ length tables′) (c : AnchorsCache) (e : view tables area c ≡ view tables′ area′ c) where
   rows-same : anchorsOf tables c ≡ anchorsOf tables′ c

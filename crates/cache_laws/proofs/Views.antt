@@ -125,11 +125,11 @@ view-cleared tables area = refl
 
 -- ---- add: the history
 -- rows that another table's append leaves
-anchors-of : (first n : ℕ) (l m : List ℕ) → part (historyBytes + 50 * first) (50 * n) l ≡ part (historyBytes + 50 * first) (50 * n) m → anchors first n l ≡ anchors first n m
+pub anchors-of : (first n : ℕ) (l m : List ℕ) → part (historyBytes + 50 * first) (50 * n) l ≡ part (historyBytes + 50 * first) (50 * n) m → anchors first n l ≡ anchors first n m
 unfolding anchors
 anchors-of first n l m e = rw (rows-part 50 n (historyBytes + 50 * first) l, rows-part 50 n (historyBytes + 50 * first) m, e)
 
-infos-of : (first n : ℕ) (l m : List ℕ) → part (52 * first) (52 * n) l ≡ part (52 * first) (52 * n) m → infos first n l ≡ infos first n m
+pub infos-of : (first n : ℕ) (l m : List ℕ) → part (52 * first) (52 * n) l ≡ part (52 * first) (52 * n) m → infos first n l ≡ infos first n m
 unfolding infos
 infos-of first n l m e = rw (rows-part 52 n (52 * first) l, rows-part 52 n (52 * first) m, e)
 

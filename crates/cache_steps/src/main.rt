@@ -22,6 +22,7 @@ struct Run {
     refused: u64,
     pops: u64,
     at: usize,
+    written: bool,
 }
 
 // None of the totals comes near 2^64.
@@ -269,24 +270,36 @@ fn put_cache(out: &mut [u8; 65536], at: usize, c: AnchorsCache, digest: u32) -> 
     text::put(out, told, b"\n")
 }
 
-fn write_front(out: &[u8], at: usize) {
-    if at <= out.len() {
-        io::write_all(1, &out[0..at]);
+// The text is written where one more step might not fit. The longest has 40 lines of `add` and its last line.
+fn flushed(out: &[u8; 65536], run: Run, at: usize) -> Run {
+    let mut next = run;
+    next.at = at;
+    if 61440 <= at {
+        next.at = 0;
+        next.written = streams::write_front(out, at);
     }
+    next
 }
 
-// The longest step has 40 lines of `add` and its last line.
-fn flushed(out: &[u8; 65536], at: usize) -> usize {
-    if at < 61440 {
-        return at;
-    }
-    write_front(out, at);
-    0
+// A step and its line.
+fn turn(
+    tables: &mut [u8; 14912],
+    area: &mut [u8; 33792],
+    out: &mut [u8; 65536],
+    seed: &mut u32,
+    run: Run,
+    kind: u32,
+) -> Run {
+    let next = step(tables, area, out, seed, run, kind);
+    let now = next.t;
+    let digest = digest::of_cache(tables, area, now);
+    let at = put_cache(out, next.at, now.cache, digest);
+    flushed(out, next, at)
 }
 
 fn finish(out: &mut [u8; 65536], run: Run) {
     let at = text::put_line(out, run.at, b"end", &[run.adds, run.refused, run.pops]);
-    write_front(out, at);
+    streams::write_front(out, at);
 }
 
 fn main() {
@@ -303,14 +316,14 @@ fn main() {
         refused: 0,
         pops: 0,
         at: 0,
+        written: true,
     };
     let mut i: u32 = 0;
     while i < 1200 {
-        run = step(&mut tables, &mut area, &mut out, &mut seed, run, i / 40 % 3);
-        let now = run.t;
-        let digest = digest::of_cache(&tables, &area, now);
-        let at = put_cache(&mut out, run.at, now.cache, digest);
-        run.at = flushed(&out, at);
+        run = turn(&mut tables, &mut area, &mut out, &mut seed, run, i / 40 % 3);
+        if !run.written {
+            return;
+        }
         i += 1;
     }
     finish(&mut out, run);

@@ -24,7 +24,8 @@ pub const NO_KEY: ExternalKey = ExternalKey {
     msgs_offset: 0,
 };
 
-// The timeout in chain time's unit. The age test takes chain times only, so no timeout comes to it but through here.
+// The timeout in chain time's unit. The age test takes chain times only, so a `Seconds` comes to it through here alone.
+// The fields are public: whoever builds a `ChainTime` from a bare number answers for the number's unit.
 pub fn to_millis(timeout: Seconds) -> ChainTime
     ensures { λ r. ⌜ r ≡ millisOf timeout ⌝ }
 {

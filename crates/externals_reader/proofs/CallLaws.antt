@@ -15,7 +15,7 @@ use Rattle.anchors_cache.proofs.Asked.{refusal-parts}
 use Rattle.range_rules.specs.Rules.{Outcome}
 use Rattle.range_reader.specs.Ready.{Wrote}
 use Rattle.messages_buffer.proofs.Laws.{first-zero}
-use Rattle.range_reader.proofs.CallLaws.{zeros}
+use Rattle.range_rules.proofs.Counts.{zeros}
 use Rattle.reader_rules.specs.declared.ExternalsReader.{ExternalsReader}
 use Rattle.reader_rules.specs.declared.GetNextMessageGroupMode.{GetNextMessageGroupMode}
 use Rattle.externals_reader.specs.declared.ReadIntoBuffers.{ReadIntoBuffers}

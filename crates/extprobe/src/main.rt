@@ -3,40 +3,89 @@ mod kinds;
 mod run;
 mod state;
 
-// The next session of a list: how many bytes it has, and whether it is one of extread's.
+use streams::Input;
+
+// The next session of a list: how many bytes it has, and whether it is one of extread's; or the list is over; or it
+// goes on and has no session that can be run.
 enum Framed {
     Bytes(usize, bool),
-    Nothing,
+    End,
+    Cut,
 }
 
 fn read_front(bytes: &mut [u8], n: usize) -> bool {
     if n <= bytes.len() {
-        return io::read_full(0, &mut bytes[0..n]) == n;
+        let read = streams::fill(&mut bytes[0..n]);
+        return read.n == n;
     }
     false
 }
 
 // Its length, 4 bytes, then 1 for one of extread's or 0, then so many bytes.
-// A session that is longer than there is room for, or cut short, ends the list.
 fn read_session(bytes: &mut [u8; 131072]) -> Framed {
     let mut head = [0u8; 5];
-    if io::read_full(0, &mut head) != 5 {
-        return Framed::Nothing;
+    let read = streams::fill(&mut head);
+    if read.n < 5 {
+        if read.n == 0 {
+            if !read.failed {
+                return Framed::End;
+            }
+        }
+        return Framed::Cut;
     }
     let n = rows::u32_at(&head, 0) as usize;
     if read_front(bytes, n) {
         return Framed::Bytes(n, head[4] == 1);
     }
-    Framed::Nothing
+    Framed::Cut
 }
 
-fn print_count(name: &[u8], n: u64) {
+fn print_count(name: &[u8], n: u64) -> bool {
     let mut line = [0u8; 64];
     let at = text::put_line(&mut line, 0, name, &[n]);
-    run::write_front(&line, at);
+    streams::write_front(&line, at)
 }
 
-// Sessions one after the other, each under a line `session` with its number; then how many there were.
+// Whether the session of this number was run and there may be more; behind the last one stands their number.
+fn replay_one(
+    bytes: &mut [u8; 131072],
+    tables: &mut [u8; 14912],
+    area: &mut [u8; 33792],
+    routes: &mut [u8; 8704],
+    text: &mut [u8; 131072],
+    k: u64,
+) -> bool {
+    let framed = read_session(bytes);
+    match framed {
+        Framed::Bytes(n, plain) => {
+            if !print_count(b"session", k) {
+                return false;
+            }
+            run::session(
+                bytes,
+                n,
+                tables,
+                area,
+                routes,
+                text,
+                state::new(plain, false),
+            )
+        }
+        Framed::End => {
+            print_count(b"sessions", k);
+            false
+        }
+        Framed::Cut => {
+            io::write_all(
+                2,
+                b"extprobe: the list has a session that is cut short or too long\n",
+            );
+            false
+        }
+    }
+}
+
+// Sessions one after the other, each under a line `session` with its number.
 fn replay(
     bytes: &mut [u8; 131072],
     tables: &mut [u8; 14912],
@@ -46,15 +95,20 @@ fn replay(
 ) {
     let mut k: u64 = 0;
     while k < u64::MAX {
-        let framed = read_session(bytes);
-        let Framed::Bytes(n, plain) = framed else {
-            print_count(b"sessions", k);
+        if !replay_one(bytes, tables, area, routes, text, k) {
             return;
-        };
-        print_count(b"session", k);
-        run::session(bytes, n, tables, area, routes, text, plain);
+        }
         k += 1;
     }
+}
+
+// What stands behind a session of n bytes.
+fn read_behind(n: usize) -> Input {
+    let mut more = [0u8; 1];
+    if n < 131072 {
+        return Input::End;
+    }
+    streams::read(&mut more)
 }
 
 // One session on standard input. A longer one than there is room for is not run.
@@ -65,13 +119,19 @@ fn single(
     routes: &mut [u8; 8704],
     text: &mut [u8; 131072],
 ) {
-    let mut more = [0u8; 1];
-    let n = io::read_full(0, bytes);
-    if io::read_full(0, &mut more) == 1 {
-        io::write_all(2, b"extprobe: a session has at most 131,072 bytes\n");
-        return;
+    let read = streams::fill(bytes);
+    let n = read.n;
+    let mut cut = read.failed;
+    let behind = read_behind(n);
+    match behind {
+        Input::Bytes(_) => {
+            io::write_all(2, b"extprobe: a session has at most 131,072 bytes\n");
+            return;
+        }
+        Input::End => {}
+        Input::Failed => cut = true,
     }
-    run::session(bytes, n, tables, area, routes, text, false);
+    run::session(bytes, n, tables, area, routes, text, state::new(false, cut));
 }
 
 // One session; with an argument, a list of them.

@@ -15,12 +15,6 @@ use records::Next;
 use session::Stepped;
 use session_rules::Session;
 
-pub fn write_front(out: &[u8], at: usize) {
-    if at <= out.len() {
-        io::write_all(1, &out[0..at]);
-    }
-}
-
 // The record is refused, and the session ends.
 fn bad(text: &mut [u8; 131072], run: Run, number: u8) -> Run {
     state::with_session(run, session_state::bad(text, run.session, number))
@@ -341,8 +335,10 @@ fn has_state(session: Session, plain: bool) -> bool {
 
 // The text so far is written, and the next one begins at the front.
 fn flushed(text: &[u8; 131072], run: Run, at: usize) -> Run {
-    write_front(text, at);
-    state::with_at(run, 0)
+    if streams::write_front(text, at) {
+        return state::with_at(run, 0);
+    }
+    state::unwritten(run)
 }
 
 // The whole state.
@@ -356,6 +352,9 @@ fn put_state(tables: &[u8], area: &[u8], text: &mut [u8; 131072], run: Run) -> u
 fn show(tables: &[u8], area: &[u8], text: &mut [u8; 131072], run: Run) -> Run {
     let session = run.session;
     let next = flushed(text, run, session.at);
+    if !next.written {
+        return next;
+    }
     if has_state(session, run.plain) {
         let at = put_state(tables, area, text, run);
         return flushed(text, next, at);
@@ -386,6 +385,13 @@ fn whole(
     after
 }
 
+fn is_cut(run: Run, end: usize) -> bool {
+    if run.cut {
+        return true;
+    }
+    run.from < end
+}
+
 // The input has ended, or ends inside a record.
 fn ended(
     tables: &[u8; 14912],
@@ -394,7 +400,7 @@ fn ended(
     run: Run,
     end: usize,
 ) -> Run {
-    let session = session_state::end(text, run.session, run.from < end);
+    let session = session_state::end(text, run.session, is_cut(run, end));
     show(tables, area, text, state::with_session(run, session))
 }
 
@@ -423,6 +429,7 @@ fn step(
 }
 
 // The session in the first `end` bytes; each record takes some of them, so that they end before the turns do.
+// Whether all of its text was written.
 pub fn session(
     bytes: &[u8],
     end: usize,
@@ -430,16 +437,17 @@ pub fn session(
     area: &mut [u8; 33792],
     routes: &mut [u8; 8704],
     text: &mut [u8; 131072],
-    plain: bool,
-) {
-    let mut run = state::new(plain);
+    start: Run,
+) -> bool {
+    let mut run = start;
     let mut turns = std::num::wrapping_add_usize(end, 1);
     while 0 < turns {
         run = step(bytes, end, tables, area, routes, text, run);
         let session = run.session;
         if session.stopped {
-            return;
+            return run.written;
         }
         turns -= 1;
     }
+    run.written
 }

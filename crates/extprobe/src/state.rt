@@ -4,11 +4,14 @@ use probe_reader::read::Lent;
 use reader_rules::ExternalsReader;
 use session_rules::Session;
 
-// A session on its way; the next record begins at `from`; `plain`: only extread's records, and its lines.
+// A session on its way; the next record begins at `from`; `plain`: only extread's records, and its lines; `cut`: what
+// follows the input at hand can't be read; `written`: no write failed.
 // Then what is lent to the calls: bytes of the message area, places of the output.
 pub struct Run {
     pub from: usize,
     pub plain: bool,
+    pub cut: bool,
+    pub written: bool,
     pub area: usize,
     pub places: usize,
     pub session: Session,
@@ -16,10 +19,12 @@ pub struct Run {
 }
 
 // Before the first record.
-pub fn new(plain: bool) -> Run {
+pub fn new(plain: bool, cut: bool) -> Run {
     Run {
         from: 0,
         plain: plain,
+        cut: cut,
+        written: true,
         area: 33792,
         places: 1024,
         session: session_state::new(),
@@ -50,6 +55,15 @@ pub fn with_at(run: Run, at: usize) -> Run {
     let mut session = run.session;
     session.at = at;
     with_session(run, session)
+}
+
+// A write failed, and nothing follows it.
+pub fn unwritten(run: Run) -> Run {
+    let mut session = run.session;
+    session.stopped = true;
+    let mut next = with_session(run, session);
+    next.written = false;
+    next
 }
 
 // The bytes of the output that are lent: its places, and some more that are too few for one.

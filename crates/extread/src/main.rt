@@ -4,6 +4,7 @@ use reader_rules::ExternalsReader;
 use records::Next;
 use session::Stepped;
 use session_rules::Session;
+use streams::Input;
 
 // A session on its way, and the input that is at hand, from `from` to `end`.
 struct Run {
@@ -16,50 +17,58 @@ struct Run {
 // No record's text is longer than 113,735 bytes; with more text than this there might be no room for one more.
 const MOST: usize = 16384;
 
-fn write_front(text: &[u8], at: usize) {
-    if at <= text.len() {
-        io::write_all(1, &text[0..at]);
-    }
-}
-
-// The text is written where it is longer than `most`.
+// The text is written where it is longer than `most`. Where it can't be, the session has stopped.
 fn flushed(text: &[u8; 131072], session: Session, most: usize) -> Session {
     let mut s = session;
     if most < session.at {
-        write_front(text, session.at);
+        if !streams::write_front(text, session.at) {
+            s.stopped = true;
+        }
         s.at = 0;
     }
     s
 }
 
-// How many bytes more were read behind the first `have`.
-fn read_more(window: &mut [u8], have: usize) -> usize {
+// More input, behind the first `have` bytes. They are less than a record, so there is room.
+fn read_more(window: &mut [u8], have: usize) -> Input {
     if window.len() <= have {
-        return 0;
+        return Input::Failed;
     }
-    let rest = &mut window[have..];
-    let got = libc::read(0, &mut *rest);
-    io::count(got, &*rest)
+    streams::read(&mut window[have..])
+}
+
+// The input has ended; `cut`: inside a record, or because it can't be read.
+fn ended(text: &mut [u8; 131072], run: Run, cut: bool) -> Run {
+    let mut next = run;
+    next.session = session_state::end(text, run.session, cut);
+    next
 }
 
 // What is at hand goes down to the front, and more input behind it.
 fn refilled(window: &mut [u8; 65536], text: &mut [u8; 131072], run: Run) -> Run {
     let have = std::num::wrapping_sub_usize(run.end, run.from);
     rows::move_down(window, run.from, 0, have);
-    let more = read_more(window, have);
+    let input = read_more(window, have);
     let mut next = run;
-    next.from = 0;
-    next.end = std::num::wrapping_add_usize(have, more);
-    if more == 0 {
-        let session = session_state::end(text, run.session, 0 < have);
-        next.session = session;
+    match input {
+        Input::Bytes(n) => {
+            next.from = 0;
+            next.end = std::num::wrapping_add_usize(have, n);
+            next
+        }
+        Input::End => ended(text, run, 0 < have),
+        Input::Failed => ended(text, run, true),
     }
-    next
 }
 
+// How many bytes more were read; 0 where there are none, or none that can be read.
 fn skim() -> usize {
     let mut buffer = io::large_buffer();
-    io::read_full(0, &mut buffer)
+    let input = streams::read(&mut buffer);
+    match input {
+        Input::Bytes(n) => n,
+        _ => 0,
+    }
 }
 
 // Whether so many bytes more stand in the input. The program stops behind them, so more may be read.

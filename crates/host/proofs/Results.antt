@@ -155,10 +155,10 @@ abbrev reads-all : Nows reading-all → Externals → ReadAllResult
 reads-all s e = readAll (s .0) (s .1 .0) (s .1 .1 .0) (s .1 .1 .1 .0) (s .1 .1 .1 .1 .0) e
 
 abbrev pub all-core-says : CoreSays E.the-type answer-and-externals reading-all
-all-core-says s z e r = (r ≡ readAllShown (reads-all s e .answer)) × (z .0 ≡ reads-all s e .out)
+all-core-says s z e r = (r ≡ readAllShown (e .reader) (reads-all s e .answer)) × (z .0 ≡ reads-all s e .out)
 
 abbrev pub all-says : FSays E.the-type answer-and-externals reading-all
-all-says s z e r u = (r ≡ readAllShown (reads-all s e .answer) .answer) × (u ≡ readAllShown (reads-all s e .answer) .state) × (z .0 ≡ reads-all s e .out)
+all-says s z e r u = (r ≡ readAllShown (e .reader) (reads-all s e .answer) .answer) × (u ≡ readAllShown (e .reader) (reads-all s e .answer) .state) × (z .0 ≡ reads-all s e .out)
 
 pub all-follows : (s : Nows reading-all) (z : Ends reading-all) (e : Externals) (r : AllRead) → all-core-says s z e r → all-says s z e (r .answer) (r .state)
 all-follows s z e r h = (ap (λ (d : AllRead). d .answer) (h .0), ap (λ (d : AllRead). d .state) (h .0), h .1)

@@ -15,12 +15,14 @@ use Rattle.anchors_cache.specs.Calls.{onZero, rowFor, addNumber, addCall}
 use Rattle.anchors_cache.specs.Windows.{addedTables, addedArea}
 use Rattle.range_reader.specs.declared.ReadExternals.{ReadExternals}
 use Rattle.range_reader.specs.Calls.{ReadResult, readCall}
+use Rattle.reader_rules.specs.declared.ExternalsReader.{ExternalsReader}
 use Rattle.externals_reader.specs.declared.ReaderDone.{ReaderDone}
 use Rattle.externals_reader.specs.declared.ReadIntoBuffers.{ReadIntoBuffers}
-use Rattle.externals_reader.specs.Calls.{ReadAllResult, handedIn, newCall, readAllCall}
+use Rattle.externals_reader.specs.Calls.{ReadAllResult, handedIn, newCall, setLimitsCall, readAllCall}
 use Rattle.host.specs.declared.AnchorPopped.{AnchorPopped}
 use Rattle.host.specs.declared.InfoTrimmed.{InfoTrimmed}
 use Rattle.host.specs.declared.PartitionShown.{PartitionShown}
+use Rattle.host.specs.declared.BufferLimits.{BufferLimits}
 use Rattle.host.specs.declared.Reader.{Reader}
 use Rattle.host.specs.declared.ReaderAfter.{ReaderAfter}
 use Rattle.host.specs.declared.Externals.{Externals}
@@ -28,7 +30,7 @@ use Rattle.host.specs.declared.AllRead.{AllRead}
 use Rattle.host.specs.declared.RangeAndCache.{RangeAndCache}
 use Rattle.host.specs.declared.RangeSettings.{RangeSettings}
 use Rattle.host.specs.declared.RangeRead.{RangeRead}
-use Rattle.host.specs.Shapes.{groupMode, rangeMode, savedTime, stateOf, readerOf, heldReader, anchorShown, infoShown}
+use Rattle.host.specs.Shapes.{groupMode, rangeMode, noTime, savedTime, stateOf, readerOf, leftReader, anchorShown, infoShown}
 
 -- ---- the cache
 unfoldable pub popShown : Popped → AnchorPopped
@@ -61,16 +63,27 @@ abbrev pub partitionShown : Answer → PartitionShown
 partitionShown a = record { number = a .number; partition = a .value }
 
 -- ---- the reader
-unfoldable pub readerShown : ReaderDone → ReaderAfter
-readerShown d = record { number = d .number; reader = heldReader (d .reader) }
+unfoldable pub readerShown : Reader → ReaderDone → ReaderAfter
+readerShown was d = record { number = d .number; reader = leftReader was (d .number) (d .reader) }
+
+-- a call on the reader that the host holds
+abbrev pub onReader : (ExternalsReader → ReaderDone) → Reader → ReaderAfter
+onReader call r = readerShown r (call (readerOf r))
+
+abbrev pub limitsSet : BufferLimits → ExternalsReader → ReaderDone
+limitsSet limits r = setLimitsCall r (limits .«by_partitions»)
 
 -- a reader over the state that it is handed with
 unfoldable pub newShown : Reader → ReaderAfter
-newShown r = readerShown (newCall (handedIn (r .«for_shard_id») (r .«block_seqno») (r .«next_chain_time») (r .«msgs_exec_params») (r .«buffer_limits_by_partitions») (stateOf (r .«reader_state»))))
+newShown r = readerShown r (newCall (handedIn (r .«for_shard_id») (r .«block_seqno») (r .«next_chain_time») (r .«msgs_exec_params») (r .«buffer_limits_by_partitions») (stateOf (r .«reader_state»))))
 
 -- a read of all ranges: what it answers and leaves, and the output
-abbrev pub readAllShown : ReadIntoBuffers → AllRead
-readAllShown a = record { answer = record { number = a .number; used = a .used; counts = a .counts }; state = record { transaction = a .state; reader = heldReader (a .reader) } }
+abbrev pub readAllShown : Reader → ReadIntoBuffers → AllRead
+readAllShown was a =
+    record {
+      answer = record { number = a .number; used = a .used; counts = a .counts };
+      state = record { transaction = a .state; reader = leftReader was (a .number) (a .reader) };
+    }
 
 unfoldable pub readAll : List ℕ → List ℕ → List ℕ → List ℕ → Bool → Externals → ReadAllResult
 readAll out tables area routes refill e = readAllCall tables area (e .transaction) routes (readerOf (e .reader)) (groupMode refill) out
@@ -79,7 +92,7 @@ readAll out tables area routes refill e = readAllCall tables area (e .transactio
 abbrev pub readRangeShown : ReadExternals → RangeRead
 readRangeShown a =
     record {
-      answer = record { number = a .number; full = a .full; «last_chain_time» = savedTime (a .«last_chain_time»); pops = a .pops; used = a .used; counts = a .counts };
+      answer = record { number = a .number; full = a .full; «last_chain_time» = savedTime noTime (a .«last_chain_time»); pops = a .pops; used = a .used; counts = a .counts };
       state = record { transaction = a .state; range = a .range };
     }
 

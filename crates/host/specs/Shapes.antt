@@ -11,6 +11,7 @@ use Rattle.anchors_cache.specs.declared.FoundInfo.{FoundInfo}
 use Rattle.anchors_cache.specs.declared.FoundInfo.the-variants as last
 use Rattle.anchors_cache.specs.declared.InfoAnswer.{InfoAnswer}
 use Rattle.anchors_cache.specs.declared.AnchorAnswer.{AnchorAnswer}
+use Rattle.anchors_cache.specs.Calls.{onZero}
 use Rattle.range_rules.specs.declared.LastChainTime.{LastChainTime}
 use Rattle.range_rules.specs.declared.LastChainTime.the-variants.{Nothing, Time}
 use Rattle.range_rules.specs.declared.ReadNextExternalsMode.{ReadNextExternalsMode}
@@ -42,9 +43,10 @@ abbrev pub lastTime : Bool → ChainTime → LastChainTime
 lastTime true ct = Time ct
 lastTime false ct = Nothing
 
-abbrev pub savedTime : LastChainTime → SavedTime
-savedTime Nothing = record { present = false; time = noTime }
-savedTime (Time ct) = record { present = true; time = ct }
+-- where there is none, the time beside the mark is free
+abbrev pub savedTime : ChainTime → LastChainTime → SavedTime
+savedTime free Nothing = record { present = false; time = free }
+savedTime free (Time ct) = record { present = true; time = ct }
 
 -- ---- the reader
 abbrev pub stateOf : ReaderState → ExternalsReaderState
@@ -62,20 +64,25 @@ readerOf r =
       «all_ranges_fully_read» = r .«all_ranges_fully_read»;
     }
 
-abbrev pub heldState : ExternalsReaderState → ReaderState
-heldState s = record { ranges = s .ranges; len = s .len; «by_partitions» = s .«by_partitions»; «last_read_to_anchor_chain_time» = savedTime (s .«last_read_to_anchor_chain_time») }
+abbrev pub heldState : ChainTime → ExternalsReaderState → ReaderState
+heldState free s = record { ranges = s .ranges; len = s .len; «by_partitions» = s .«by_partitions»; «last_read_to_anchor_chain_time» = savedTime free (s .«last_read_to_anchor_chain_time») }
 
-unfoldable pub heldReader : ExternalsReader → Reader
-heldReader r =
+unfoldable pub heldReader : ChainTime → ExternalsReader → Reader
+heldReader free r =
     record {
       «for_shard_id» = r .«for_shard_id»;
       «block_seqno» = r .«block_seqno»;
       «next_chain_time» = r .«next_chain_time»;
       «msgs_exec_params» = r .«msgs_exec_params»;
       «buffer_limits_by_partitions» = r .«buffer_limits_by_partitions»;
-      «reader_state» = heldState (r .«reader_state»);
+      «reader_state» = heldState free (r .«reader_state»);
       «all_ranges_fully_read» = r .«all_ranges_fully_read»;
     }
+
+-- What a call leaves of the host's reader, where it answers the number and the core has r then: all as it was where the
+-- call is refused, and a time that no mark says is there as it was where the call is done.
+unfoldable pub leftReader : Reader → ℕ → ExternalsReader → Reader
+leftReader was number r = onZero number (heldReader (was .«reader_state» .«last_read_to_anchor_chain_time» .time) r) was
 
 -- ---- an anchor, and an entry of the history; nothing found is zeros
 abbrev pub noAnchor : CachedAnchor

@@ -2,10 +2,9 @@
 ghost use mathlib.Core.Path.{_≡_};
 ghost use lib.ListN.{length};
 ghost use Rattle.anchors_cache.specs.Calls.{popCall, trimCall};
-ghost use Rattle.externals_reader.specs.Calls.{resetCall, dropLastCall, setLimitsCall};
+ghost use Rattle.externals_reader.specs.Calls.{resetCall, dropLastCall};
 ghost use Rattle.reader_offsets.specs.Calls.{finalizeCall, retainCall, setFromCall, incrementCall, dropCall, setSkipCall, setProcessedCall, takenCall};
-ghost use Rattle.host.specs.Shapes.{readerOf};
-ghost use Rattle.host.specs.Calls.{popShown, trimShown, addShown, readerShown, newShown, readAllShown, readAll, readRangeShown, readRange};
+ghost use Rattle.host.specs.Calls.{popShown, trimShown, addShown, onReader, limitsSet, newShown, readAllShown, readAll, readRangeShown, readRange};
 use crate::AllAnswer;
 use crate::AllRead;
 use crate::AnchorPopped;
@@ -81,92 +80,104 @@ pub(crate) fn entered(reader: Reader) -> ReaderAfter
     let limits = reader.buffer_limits_by_partitions;
     let state = shapes::state_of(reader.reader_state);
     let d = externals_reader::new(shard, reader.block_seqno, time, params, limits, state);
-    shapes::after(d)
+    shapes::after(reader, d)
 }
 
 pub(crate) fn limits_set(limits: BufferLimits, reader: Reader) -> ReaderAfter
-    ensures { λ r. ⌜ r ≡ readerShown (setLimitsCall (readerOf reader) (limits .«by_partitions»)) ⌝ }
+    ensures { λ r. ⌜ r ≡ onReader (limitsSet limits) reader ⌝ }
 {
     let by_partitions = limits.by_partitions;
-    shapes::after(externals_reader::set_buffer_limits_by_partition(
-        shapes::reader_of(reader),
-        by_partitions,
-    ))
+    shapes::after(
+        reader,
+        externals_reader::set_buffer_limits_by_partition(shapes::reader_of(reader), by_partitions),
+    )
 }
 
 pub(crate) fn reset(reader: Reader) -> ReaderAfter
-    ensures { λ r. ⌜ r ≡ readerShown (resetCall (readerOf reader)) ⌝ }
+    ensures { λ r. ⌜ r ≡ onReader resetCall reader ⌝ }
 {
-    shapes::after(externals_reader::reset_read_state(shapes::reader_of(reader)))
+    shapes::after(
+        reader,
+        externals_reader::reset_read_state(shapes::reader_of(reader)),
+    )
 }
 
 pub(crate) fn last_dropped(reader: Reader) -> ReaderAfter
-    ensures { λ r. ⌜ r ≡ readerShown (dropLastCall (readerOf reader)) ⌝ }
+    ensures { λ r. ⌜ r ≡ onReader dropLastCall reader ⌝ }
 {
-    shapes::after(externals_reader::drop_last_read_to_anchor_chain_time(shapes::reader_of(reader)))
+    shapes::after(
+        reader,
+        externals_reader::drop_last_read_to_anchor_chain_time(shapes::reader_of(reader)),
+    )
 }
 
 pub(crate) fn finalized(reader: Reader) -> ReaderAfter
-    ensures { λ r. ⌜ r ≡ readerShown (finalizeCall (readerOf reader)) ⌝ }
+    ensures { λ r. ⌜ r ≡ onReader finalizeCall reader ⌝ }
 {
-    shapes::after(reader_offsets::finalize(shapes::reader_of(reader)))
+    shapes::after(reader, reader_offsets::finalize(shapes::reader_of(reader)))
 }
 
 pub(crate) fn retained(reader: Reader) -> ReaderAfter
-    ensures { λ r. ⌜ r ≡ readerShown (retainCall (readerOf reader)) ⌝ }
+    ensures { λ r. ⌜ r ≡ onReader retainCall reader ⌝ }
 {
-    shapes::after(reader_offsets::retain_only_last_range_state(shapes::reader_of(reader)))
+    shapes::after(
+        reader,
+        reader_offsets::retain_only_last_range_state(shapes::reader_of(reader)),
+    )
 }
 
 pub(crate) fn from_set(reader: Reader) -> ReaderAfter
-    ensures { λ r. ⌜ r ≡ readerShown (setFromCall (readerOf reader)) ⌝ }
+    ensures { λ r. ⌜ r ≡ onReader setFromCall reader ⌝ }
 {
-    shapes::after(reader_offsets::set_from_to_current_position_in_last_range_state(shapes::reader_of(
+    shapes::after(
         reader,
-    )))
+        reader_offsets::set_from_to_current_position_in_last_range_state(shapes::reader_of(reader)),
+    )
 }
 
 pub(crate) fn incremented(par_id: u8, reader: Reader) -> ReaderAfter
-    ensures { λ r. ⌜ r ≡ readerShown (incrementCall «par_id» (readerOf reader)) ⌝ }
+    ensures { λ r. ⌜ r ≡ onReader (incrementCall «par_id») reader ⌝ }
 {
-    shapes::after(reader_offsets::increment_curr_processed_offset(
-        shapes::reader_of(reader),
-        par_id,
-    ))
+    shapes::after(
+        reader,
+        reader_offsets::increment_curr_processed_offset(shapes::reader_of(reader), par_id),
+    )
 }
 
 pub(crate) fn offset_dropped(par_id: u8, drop_skip_offset: bool, reader: Reader) -> ReaderAfter
-    ensures { λ r. ⌜ r ≡ readerShown (dropCall «par_id» «drop_skip_offset» (readerOf reader)) ⌝ }
+    ensures { λ r. ⌜ r ≡ onReader (dropCall «par_id» «drop_skip_offset») reader ⌝ }
 {
-    shapes::after(reader_offsets::drop_processing_offset(
-        shapes::reader_of(reader),
-        par_id,
-        drop_skip_offset,
-    ))
+    shapes::after(
+        reader,
+        reader_offsets::drop_processing_offset(shapes::reader_of(reader), par_id, drop_skip_offset),
+    )
 }
 
 pub(crate) fn skip_set(par_id: u8, reader: Reader) -> ReaderAfter
-    ensures { λ r. ⌜ r ≡ readerShown (setSkipCall «par_id» (readerOf reader)) ⌝ }
+    ensures { λ r. ⌜ r ≡ onReader (setSkipCall «par_id») reader ⌝ }
 {
-    shapes::after(reader_offsets::set_skip_processed_offset_to_current(
-        shapes::reader_of(reader),
-        par_id,
-    ))
+    shapes::after(
+        reader,
+        reader_offsets::set_skip_processed_offset_to_current(shapes::reader_of(reader), par_id),
+    )
 }
 
 pub(crate) fn processed_set(par_id: u8, reader: Reader) -> ReaderAfter
-    ensures { λ r. ⌜ r ≡ readerShown (setProcessedCall «par_id» (readerOf reader)) ⌝ }
+    ensures { λ r. ⌜ r ≡ onReader (setProcessedCall «par_id») reader ⌝ }
 {
-    shapes::after(reader_offsets::set_processed_to_current_position(
-        shapes::reader_of(reader),
-        par_id,
-    ))
+    shapes::after(
+        reader,
+        reader_offsets::set_processed_to_current_position(shapes::reader_of(reader), par_id),
+    )
 }
 
 pub(crate) fn taken(seqno: u32, par_id: u8, taken: u32, reader: Reader) -> ReaderAfter
-    ensures { λ r. ⌜ r ≡ readerShown (takenCall seqno «par_id» taken (readerOf reader)) ⌝ }
+    ensures { λ r. ⌜ r ≡ onReader (takenCall seqno «par_id» taken) reader ⌝ }
 {
-    shapes::after(reader_offsets::messages_taken(shapes::reader_of(reader), seqno, par_id, taken))
+    shapes::after(
+        reader,
+        reader_offsets::messages_taken(shapes::reader_of(reader), seqno, par_id, taken),
+    )
 }
 
 pub(crate) fn all_read(
@@ -177,16 +188,17 @@ pub(crate) fn all_read(
     refill: bool,
     e: Externals,
 ) -> AllRead
-    ensures { λ r. ⌜ (r ≡ readAllShown (readAll (now (out .entry)) (now (tables .entry)) (now (area .entry)) (now (routes .entry)) refill e .answer))
+    ensures { λ r. ⌜ (r ≡ readAllShown (e .reader) (readAll (now (out .entry)) (now (tables .entry)) (now (area .entry)) (now (routes .entry)) refill e .answer))
         × (now (out .exit) ≡ readAll (now (out .entry)) (now (tables .entry)) (now (area .entry)) (now (routes .entry)) refill e .out) ⌝ }
 {
     let t = e.transaction;
-    let reader = shapes::reader_of(e.reader);
+    let was = e.reader;
+    let reader = shapes::reader_of(was);
     let mode = shapes::group_mode(refill);
     let a = externals_reader::read_into_buffers(tables, area, t, routes, reader, mode, out);
     let counts = a.counts;
     let after = a.state;
-    let held = shapes::held_reader(a.reader);
+    let left = shapes::left_reader(was, a.number, a.reader);
     let answer = AllAnswer {
         number: a.number,
         used: a.used,
@@ -194,7 +206,7 @@ pub(crate) fn all_read(
     };
     let state = Externals {
         transaction: after,
-        reader: held,
+        reader: left,
     };
     AllRead {
         answer: answer,
@@ -240,7 +252,7 @@ pub(crate) fn range_read(
     let answer = RangeAnswer {
         number: a.number,
         full: a.full,
-        last_chain_time: shapes::saved_time(last),
+        last_chain_time: shapes::saved_time(ChainTime(0), last),
         pops: a.pops,
         used: a.used,
         counts: counts,

@@ -6,11 +6,10 @@ ghost use lib.ListN.{length};
 ghost use Rattle.shard_ident.specs.Shard.{containsMessage};
 ghost use Rattle.router.specs.Router.{routesNumber, getPartition};
 ghost use Rattle.anchors_cache.specs.Calls.{popCall, trimCall, clearCall, openCall, commitCall, rollbackCall, closeCall, lastInfoCall, infoAtCtCall, getCall, pendingCall, pendingInRangeCall, closedTransaction};
-ghost use Rattle.externals_reader.specs.Calls.{resetCall, dropLastCall, setLimitsCall, partitionIdsCall, nextRangeCall};
-ghost use Rattle.reader_offsets.specs.Calls.{finalizeCall, limitReachedCall, nonZeroOffsetCall, offsetReachedCall, offsetsReachedCall, countCall, hasMessagesCall, notFullyReadCall, readAndCollectedCall, checkReadAndCollectedCall, allCollectedCall, lastOffsetsCall, retainCall, setFromCall, incrementCall, dropCall, setSkipCall, setProcessedCall, takenCall};
-ghost use Rattle.reader_offsets.specs.Calls as offsets;
+ghost use Rattle.externals_reader.specs.Calls.{resetCall, dropLastCall, partitionIdsCall, nextRangeCall};
+ghost use Rattle.reader_offsets.specs.Calls.{finalizeCall, limitReachedCall, nonZeroOffsetCall, offsetReachedCall, offsetsReachedCall, countCall, hasMessagesCall, notFullyReadCall, readAndCollectedCall, checkReadAndCollectedCall, allCollectedCall, lastOffsetsCall, retainCall, setFromCall, incrementCall, dropCall, setSkipCall, setProcessedCall, takenCall, pendingExternalsCall};
 ghost use Rattle.host.specs.Shapes.{readerOf, anchorAnswer, infoAnswer};
-ghost use Rattle.host.specs.Calls.{popShown, trimShown, addShown, oursShown, partitionShown, readerShown, newShown, readAllShown, readAll, readRangeShown, readRange};
+ghost use Rattle.host.specs.Calls.{popShown, trimShown, addShown, oursShown, partitionShown, onReader, limitsSet, newShown, readAllShown, readAll, readRangeShown, readRange};
 use anchors_cache::AnchorInfo;
 use anchors_cache::AnchorsCacheTransaction;
 use anchors_cache::CachedAnchor;
@@ -362,8 +361,8 @@ pub extern "C" fn ext_set_buffer_limits_by_partition(
     reader: &mut Reader,
     limits: BufferLimits,
 ) -> u8
-    ensures { λ r. ⌜ (r ≡ readerShown (setLimitsCall (readerOf (now (reader .entry))) (limits .«by_partitions»)) .number)
-        × (now (reader .exit) ≡ readerShown (setLimitsCall (readerOf (now (reader .entry))) (limits .«by_partitions»)) .reader) ⌝ }
+    ensures { λ r. ⌜ (r ≡ onReader (limitsSet limits) (now (reader .entry)) .number)
+        × (now (reader .exit) ≡ onReader (limitsSet limits) (now (reader .entry)) .reader) ⌝ }
 {
     let r = cores::limits_set(limits, *reader);
     *reader = r.reader;
@@ -372,7 +371,7 @@ pub extern "C" fn ext_set_buffer_limits_by_partition(
 
 #[no_mangle]
 pub extern "C" fn ext_reset_read_state(reader: &mut Reader) -> u8
-    ensures { λ r. ⌜ (r ≡ readerShown (resetCall (readerOf (now (reader .entry)))) .number) × (now (reader .exit) ≡ readerShown (resetCall (readerOf (now (reader .entry)))) .reader) ⌝ }
+    ensures { λ r. ⌜ (r ≡ onReader resetCall (now (reader .entry)) .number) × (now (reader .exit) ≡ onReader resetCall (now (reader .entry)) .reader) ⌝ }
 {
     let r = cores::reset(*reader);
     *reader = r.reader;
@@ -381,7 +380,7 @@ pub extern "C" fn ext_reset_read_state(reader: &mut Reader) -> u8
 
 #[no_mangle]
 pub extern "C" fn ext_drop_last_read_to_anchor_chain_time(reader: &mut Reader) -> u8
-    ensures { λ r. ⌜ (r ≡ readerShown (dropLastCall (readerOf (now (reader .entry)))) .number) × (now (reader .exit) ≡ readerShown (dropLastCall (readerOf (now (reader .entry)))) .reader) ⌝ }
+    ensures { λ r. ⌜ (r ≡ onReader dropLastCall (now (reader .entry)) .number) × (now (reader .exit) ≡ onReader dropLastCall (now (reader .entry)) .reader) ⌝ }
 {
     let r = cores::last_dropped(*reader);
     *reader = r.reader;
@@ -390,7 +389,7 @@ pub extern "C" fn ext_drop_last_read_to_anchor_chain_time(reader: &mut Reader) -
 
 #[no_mangle]
 pub extern "C" fn ext_finalize(reader: &mut Reader) -> u8
-    ensures { λ r. ⌜ (r ≡ readerShown (finalizeCall (readerOf (now (reader .entry)))) .number) × (now (reader .exit) ≡ readerShown (finalizeCall (readerOf (now (reader .entry)))) .reader) ⌝ }
+    ensures { λ r. ⌜ (r ≡ onReader finalizeCall (now (reader .entry)) .number) × (now (reader .exit) ≡ onReader finalizeCall (now (reader .entry)) .reader) ⌝ }
 {
     let r = cores::finalized(*reader);
     *reader = r.reader;
@@ -399,7 +398,7 @@ pub extern "C" fn ext_finalize(reader: &mut Reader) -> u8
 
 #[no_mangle]
 pub extern "C" fn ext_retain_only_last_range_state(reader: &mut Reader) -> u8
-    ensures { λ r. ⌜ (r ≡ readerShown (retainCall (readerOf (now (reader .entry)))) .number) × (now (reader .exit) ≡ readerShown (retainCall (readerOf (now (reader .entry)))) .reader) ⌝ }
+    ensures { λ r. ⌜ (r ≡ onReader retainCall (now (reader .entry)) .number) × (now (reader .exit) ≡ onReader retainCall (now (reader .entry)) .reader) ⌝ }
 {
     let r = cores::retained(*reader);
     *reader = r.reader;
@@ -408,7 +407,7 @@ pub extern "C" fn ext_retain_only_last_range_state(reader: &mut Reader) -> u8
 
 #[no_mangle]
 pub extern "C" fn ext_set_from_to_current_position_in_last_range_state(reader: &mut Reader) -> u8
-    ensures { λ r. ⌜ (r ≡ readerShown (setFromCall (readerOf (now (reader .entry)))) .number) × (now (reader .exit) ≡ readerShown (setFromCall (readerOf (now (reader .entry)))) .reader) ⌝ }
+    ensures { λ r. ⌜ (r ≡ onReader setFromCall (now (reader .entry)) .number) × (now (reader .exit) ≡ onReader setFromCall (now (reader .entry)) .reader) ⌝ }
 {
     let r = cores::from_set(*reader);
     *reader = r.reader;
@@ -417,7 +416,7 @@ pub extern "C" fn ext_set_from_to_current_position_in_last_range_state(reader: &
 
 #[no_mangle]
 pub extern "C" fn ext_increment_curr_processed_offset(reader: &mut Reader, par_id: u8) -> u8
-    ensures { λ r. ⌜ (r ≡ readerShown (incrementCall «par_id» (readerOf (now (reader .entry)))) .number) × (now (reader .exit) ≡ readerShown (incrementCall «par_id» (readerOf (now (reader .entry)))) .reader) ⌝ }
+    ensures { λ r. ⌜ (r ≡ onReader (incrementCall «par_id») (now (reader .entry)) .number) × (now (reader .exit) ≡ onReader (incrementCall «par_id») (now (reader .entry)) .reader) ⌝ }
 {
     let r = cores::incremented(par_id, *reader);
     *reader = r.reader;
@@ -430,7 +429,7 @@ pub extern "C" fn ext_drop_processing_offset(
     par_id: u8,
     drop_skip_offset: bool,
 ) -> u8
-    ensures { λ r. ⌜ (r ≡ readerShown (dropCall «par_id» «drop_skip_offset» (readerOf (now (reader .entry)))) .number) × (now (reader .exit) ≡ readerShown (dropCall «par_id» «drop_skip_offset» (readerOf (now (reader .entry)))) .reader) ⌝ }
+    ensures { λ r. ⌜ (r ≡ onReader (dropCall «par_id» «drop_skip_offset») (now (reader .entry)) .number) × (now (reader .exit) ≡ onReader (dropCall «par_id» «drop_skip_offset») (now (reader .entry)) .reader) ⌝ }
 {
     let r = cores::offset_dropped(par_id, drop_skip_offset, *reader);
     *reader = r.reader;
@@ -439,7 +438,7 @@ pub extern "C" fn ext_drop_processing_offset(
 
 #[no_mangle]
 pub extern "C" fn ext_set_skip_processed_offset_to_current(reader: &mut Reader, par_id: u8) -> u8
-    ensures { λ r. ⌜ (r ≡ readerShown (setSkipCall «par_id» (readerOf (now (reader .entry)))) .number) × (now (reader .exit) ≡ readerShown (setSkipCall «par_id» (readerOf (now (reader .entry)))) .reader) ⌝ }
+    ensures { λ r. ⌜ (r ≡ onReader (setSkipCall «par_id») (now (reader .entry)) .number) × (now (reader .exit) ≡ onReader (setSkipCall «par_id») (now (reader .entry)) .reader) ⌝ }
 {
     let r = cores::skip_set(par_id, *reader);
     *reader = r.reader;
@@ -448,7 +447,7 @@ pub extern "C" fn ext_set_skip_processed_offset_to_current(reader: &mut Reader, 
 
 #[no_mangle]
 pub extern "C" fn ext_set_processed_to_current_position(reader: &mut Reader, par_id: u8) -> u8
-    ensures { λ r. ⌜ (r ≡ readerShown (setProcessedCall «par_id» (readerOf (now (reader .entry)))) .number) × (now (reader .exit) ≡ readerShown (setProcessedCall «par_id» (readerOf (now (reader .entry)))) .reader) ⌝ }
+    ensures { λ r. ⌜ (r ≡ onReader (setProcessedCall «par_id») (now (reader .entry)) .number) × (now (reader .exit) ≡ onReader (setProcessedCall «par_id») (now (reader .entry)) .reader) ⌝ }
 {
     let r = cores::processed_set(par_id, *reader);
     *reader = r.reader;
@@ -457,7 +456,7 @@ pub extern "C" fn ext_set_processed_to_current_position(reader: &mut Reader, par
 
 #[no_mangle]
 pub extern "C" fn ext_messages_taken(reader: &mut Reader, seqno: u32, par_id: u8, taken: u32) -> u8
-    ensures { λ r. ⌜ (r ≡ readerShown (takenCall seqno «par_id» taken (readerOf (now (reader .entry)))) .number) × (now (reader .exit) ≡ readerShown (takenCall seqno «par_id» taken (readerOf (now (reader .entry)))) .reader) ⌝ }
+    ensures { λ r. ⌜ (r ≡ onReader (takenCall seqno «par_id» taken) (now (reader .entry)) .number) × (now (reader .exit) ≡ onReader (takenCall seqno «par_id» taken) (now (reader .entry)) .reader) ⌝ }
 {
     let r = cores::taken(seqno, par_id, taken, *reader);
     *reader = r.reader;
@@ -566,8 +565,8 @@ pub extern "C" fn ext_read_into_buffers(
     routes: &[u8],
     refill: bool,
 ) -> AllAnswer
-    ensures { λ r. ⌜ (r ≡ readAllShown (readAll (now (out .entry)) (now (tables .entry)) (now (area .entry)) (now (routes .entry)) refill (now (e .entry)) .answer) .answer)
-        × (now (e .exit) ≡ readAllShown (readAll (now (out .entry)) (now (tables .entry)) (now (area .entry)) (now (routes .entry)) refill (now (e .entry)) .answer) .state)
+    ensures { λ r. ⌜ (r ≡ readAllShown (now (e .entry) .reader) (readAll (now (out .entry)) (now (tables .entry)) (now (area .entry)) (now (routes .entry)) refill (now (e .entry)) .answer) .answer)
+        × (now (e .exit) ≡ readAllShown (now (e .entry) .reader) (readAll (now (out .entry)) (now (tables .entry)) (now (area .entry)) (now (routes .entry)) refill (now (e .entry)) .answer) .state)
         × (now (out .exit) ≡ readAll (now (out .entry)) (now (tables .entry)) (now (area .entry)) (now (routes .entry)) refill (now (e .entry)) .out) ⌝ }
 {
     let r = cores::all_read(out, tables, area, routes, refill, *e);
@@ -599,7 +598,7 @@ pub extern "C" fn ext_has_pending_externals(
     t: AnchorsCacheTransaction,
     reader: Reader,
 ) -> FlagAnswer
-    ensures { λ r. ⌜ r ≡ offsets.pendingExternalsCall (now (tables .entry)) t (readerOf reader) ⌝ }
+    ensures { λ r. ⌜ r ≡ pendingExternalsCall (now (tables .entry)) t (readerOf reader) ⌝ }
 {
     reader_offsets::has_pending_externals(tables, t, shapes::reader_of(reader))
 }

@@ -2,7 +2,7 @@
 ghost use mathlib.Core.Path.{_≡_};
 ghost use Rattle.shard_ident.specs.Shard.{answerOf as membership};
 ghost use Rattle.router.specs.Router.{answerOf};
-ghost use Rattle.host.specs.Shapes.{groupMode, rangeMode, lastTime, savedTime, stateOf, readerOf, heldState, heldReader, anchorShown, infoShown};
+ghost use Rattle.host.specs.Shapes.{groupMode, rangeMode, lastTime, savedTime, stateOf, readerOf, heldState, heldReader, leftReader, anchorShown, infoShown};
 ghost use Rattle.host.specs.Calls.{readerShown, oursShown, partitionShown};
 use crate::AnchorShown;
 use crate::InfoShown;
@@ -54,13 +54,13 @@ fn last_time(present: bool, time: ChainTime) -> LastChainTime
     LastChainTime::Nothing
 }
 
-pub(crate) fn saved_time(last: LastChainTime) -> SavedTime
-    ensures { λ r. ⌜ r ≡ savedTime last ⌝ }
+pub(crate) fn saved_time(free: ChainTime, last: LastChainTime) -> SavedTime
+    ensures { λ r. ⌜ r ≡ savedTime free last ⌝ }
 {
     let LastChainTime::Time(ct) = last else {
         return SavedTime {
             present: false,
-            time: ChainTime(0),
+            time: free,
         };
     };
     SavedTime {
@@ -104,13 +104,13 @@ pub(crate) fn reader_of(r: Reader) -> ExternalsReader
     }
 }
 
-fn held_state(s: ExternalsReaderState) -> ReaderState
-    ensures { λ r. ⌜ r ≡ heldState s ⌝ }
+fn held_state(free: ChainTime, s: ExternalsReaderState) -> ReaderState
+    ensures { λ r. ⌜ r ≡ heldState free s ⌝ }
 {
     let ranges = s.ranges;
     let parts = s.by_partitions;
     let last = s.last_read_to_anchor_chain_time;
-    let saved = saved_time(last);
+    let saved = saved_time(free, last);
     ReaderState {
         ranges: ranges,
         len: s.len,
@@ -119,14 +119,14 @@ fn held_state(s: ExternalsReaderState) -> ReaderState
     }
 }
 
-pub(crate) fn held_reader(r: ExternalsReader) -> Reader
-    ensures { λ q. ⌜ q ≡ heldReader r ⌝ }
+fn held_reader(free: ChainTime, r: ExternalsReader) -> Reader
+    ensures { λ q. ⌜ q ≡ heldReader free r ⌝ }
 {
     let shard = r.for_shard_id;
     let time = r.next_chain_time;
     let params = r.msgs_exec_params;
     let limits = r.buffer_limits_by_partitions;
-    let state = held_state(r.reader_state);
+    let state = held_state(free, r.reader_state);
     Reader {
         for_shard_id: shard,
         block_seqno: r.block_seqno,
@@ -138,12 +138,26 @@ pub(crate) fn held_reader(r: ExternalsReader) -> Reader
     }
 }
 
-pub(crate) fn after(d: ReaderDone) -> ReaderAfter
-    ensures { λ r. ⌜ r ≡ readerShown d ⌝ }
+// A refused call leaves the host's reader as it was, and a done one a time that no mark says is there.
+pub(crate) fn left_reader(was: Reader, number: u8, r: ExternalsReader) -> Reader
+    ensures { λ q. ⌜ q ≡ leftReader was number r ⌝ }
 {
+    if number != 0 {
+        return was;
+    }
+    let state = was.reader_state;
+    let saved = state.last_read_to_anchor_chain_time;
+    let free = saved.time;
+    held_reader(free, r)
+}
+
+pub(crate) fn after(was: Reader, d: ReaderDone) -> ReaderAfter
+    ensures { λ r. ⌜ r ≡ readerShown was d ⌝ }
+{
+    let reader = left_reader(was, d.number, d.reader);
     ReaderAfter {
         number: d.number,
-        reader: held_reader(d.reader),
+        reader: reader,
     }
 }
 

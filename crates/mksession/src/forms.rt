@@ -16,6 +16,8 @@ pub const NO_ROOM: u8 = 5;
 
 pub const LONG_LINE: u8 = 6;
 
+pub const UNREAD: u8 = 7;
+
 // A row for each word that begins a line: the word, the record's kind (0000: it has no head), and the fields.
 // A field is its kind, width, mark and name. Kinds: u number, x hexadecimal number, i number with a sign, l limit, c 32
 // bytes,

@@ -13,6 +13,7 @@ fn print_reason(wrong: u8, name: &[u8]) -> bool {
         forms::WRONG_VALUE => io::write_all(2, b" has no value that fits\n"),
         forms::SURPLUS => io::write_all(2, b" is one word too many\n"),
         forms::NO_ROOM => io::write_all(2, b"a record of more than 131,072 bytes\n"),
+        forms::UNREAD => io::write_all(2, b"can't be read\n"),
         _ => io::write_all(2, b"more than 65,536 bytes\n"),
     }
 }
@@ -48,10 +49,6 @@ fn put_head(out: &mut [u8; 131072], n: u64, kind: u64) {
     }
 }
 
-fn write_front(s: &[u8], n: usize) -> bool {
-    io::write_all(1, words::part(s, 0, n))
-}
-
 // After the walk: something was wrong, or words are left, or the record is done.
 fn ended(
     line: &[u8],
@@ -78,7 +75,7 @@ fn ended(
         return refused(number, forms::NO_ROOM, b"");
     }
     put_head(out, w.at as u64, kind);
-    write_front(out, w.at)
+    streams::write_front(out, w.at)
 }
 
 // The record of a line whose first word ends at a place, by its row: a word, the kind, the fields.

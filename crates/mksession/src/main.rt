@@ -5,6 +5,8 @@ mod lines;
 mod numbers;
 mod words;
 
+use streams::Input;
+
 // `number` is that of the line being read, `length` how many of its bytes are there; the text read goes on from `at` to
 // `end`.
 struct Run {
@@ -38,16 +40,22 @@ fn take_byte(run: Run, b: u8, line: &mut [u8; 65536], out: &mut [u8; 131072]) ->
     next
 }
 
-// More of the text; the last line may lack its end.
+// More of the text. The last line may lack its end; where the text can't be read, there is no last line.
 fn read_some(run: Run, text: &mut [u8; 65536], line: &[u8; 65536], out: &mut [u8; 131072]) -> Run {
-    let n = io::read_full(0, text);
+    let input = streams::read(text);
     let mut next = run;
-    next.at = 0;
-    next.end = n;
-    if n == 0 {
-        next = end_line(run, line, out);
-        next.stopped = true;
+    match input {
+        Input::Bytes(n) => {
+            next.at = 0;
+            next.end = n;
+            return next;
+        }
+        Input::End => next = end_line(run, line, out),
+        Input::Failed => {
+            lines::refused(run.number, forms::UNREAD, b"");
+        }
     }
+    next.stopped = true;
     next
 }
 

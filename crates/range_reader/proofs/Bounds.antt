@@ -25,7 +25,7 @@ use Rattle.range_reader.specs.Calls.{askedNumber, refusedAnswer, doneRes
 use Rattle.messages_buffer.proofs.Laws.{first-zero, first-alone}
 use Rattle.range_reader.proofs.Numbers.{passed}
 use Rattle.range_rules.specs.Bounds.{AtMost}
-use Rattle.range_reader.proofs.Kept.{steps-kept, every-count-is-at-most-1024}
+use Rattle.range_reader.proofs.Kept.{steps-kept, every-count-is-at-most-the-cached-messages}
 use Rattle.range_reader.proofs.Entries.{steps-fit}
 use Rattle.cache_rules.specs.Rules.{maxAnchors, maxMessages}
 
@@ -84,7 +84,7 @@ module _ (tables area : List ℕ) (t : AnchorsCacheTransaction) (shard : ShardId
   pub every-answer-is-bounded : (out : List ℕ) (q : ReadExternals) → q ≡ readCall tables area t shard routes limits processed timeout mode range out .answer → Bounded (length out) q
   unfolding readCall
   every-answer-is-bounded out q e =
-      rw e (record { counts = every-count-is-at-most-1024 tables area t shard routes limits processed timeout mode range out; pops = few (eqb (number out) 0) refl; used = fits (eqb (number out) 0) refl })
+      rw e (record { counts = every-count-is-at-most-the-cached-messages tables area t shard routes limits processed timeout mode range out; pops = few (eqb (number out) 0) refl; used = fits (eqb (number out) 0) refl })
     where
       asked : eqb (number out) 0 ≡ true → askedNumber tables area t shard routes limits range ≡ 0
       asked e = first-zero _ _ (eqb-true (number out) 0 e) .0

@@ -1,12 +1,12 @@
 -- The public call, put together from what its parts ensure.
-use Prim.Native.Nat.{ℕ, suc, zero, _-_, _*_, _≤_}
+use Prim.Native.Nat.{ℕ, _-_, _*_}
 use mathlib.Core.Path.{_≡_, refl, sym, ap, _∙_}
 use mathlib.Core.Bool.{Bool, true, false, _&&_}
 use mathlib.Core.List.{List, [], _∷_}
 use native.Mathlib.Omega.{arith}
 use native.Mathlib.Nat.{mul-div-le}
 use lib.Dec.{eqb}
-use lib.ListN.{length, getD, drop, replicate}
+use lib.ListN.{length, drop}
 use lib.Seq.{sets}
 use borrow.Author.Tests.{eq-eqb, ne-eqb}
 use Rattle.rows.specs.Rows.{pick}
@@ -30,14 +30,10 @@ use Rattle.range_rules.specs.declared.ProcessedTo.{ProcessedTo}
 use Rattle.range_rules.specs.declared.ReadNextExternalsMode.{ReadNextExternalsMode}
 use Rattle.range_rules.specs.Rules.{Outcome, silent, anchorsRead, contextOf, entryOf}
 use Rattle.range_reader.specs.Ready.{RangeReady, readOrRefused}
+use Rattle.range_rules.proofs.Counts.{zeros}
 use Rattle.range_reader.specs.Calls.{askedNumber, askedState, refusedAnswer, doneAnswer, rangeRead, ReadResult, readCall, checkCall}
 use Rattle.messages_buffer.proofs.Laws.{first-no, first-yes, first-alone}
 use Rattle.range_reader.proofs.Numbers.{passed}
-
-pub zeros : (n i k : ℕ) → getD (replicate n 0) i 0 ≤ k
-zeros zero i k = omega arith
-zeros (suc n) zero k = omega arith
-zeros (suc n) (suc i) k = zeros n i k
 
 -- a result that is written where `write` is set, and else only told
 told : (write : Bool) (d : ReadResult) (out : List ℕ) (q : ReadExternals) (w o : List ℕ) → record { answer = q; out = w } ≡ d → o ≡ pick write w out → record { answer = q; out = o } ≡ pick write d (record { answer = d .answer; out = out })

@@ -25,11 +25,10 @@ use Rattle.range_rules.specs.declared.ReadNextExternalsMode.{ReadNextExternalsM
 use Rattle.range_rules.specs.Rules.{Outcome, silent, expired, nextRead, anchorsRead, contextOf, entryOf}
 use Rattle.range_rules.specs.Bounds.{AtMost}
 use Rattle.range_reader.specs.Calls.{askedNumber, refusedAnswer, doneResult, rangeRead, readCall}
-use Rattle.range_rules.proofs.Counts.{within-up}
+use Rattle.range_rules.proofs.Counts.{within-up, zeros}
 use Rattle.range_reader.proofs.AnchorLaws.{RangeKept, anchor-kept}
 use Rattle.messages_buffer.proofs.Laws.{first-zero}
 use Rattle.range_reader.proofs.Numbers.{passed}
-use Rattle.range_reader.proofs.CallLaws.{zeros}
 
 -- how many messages some anchors have
 unfoldable pub messagesIn : List Anchor → ℕ
@@ -83,9 +82,9 @@ module _ (tables area : List ℕ) (t : AnchorsCacheTransaction) (shard : ShardId
         few-pops = omega (arith, g .few-pops);
       }
 
-  pub every-count-is-at-most-1024 : (out : List ℕ) → AtMost maxMessages (readCall tables area t shard routes limits processed timeout mode range out .answer .counts)
+  pub every-count-is-at-most-the-cached-messages : (out : List ℕ) → AtMost maxMessages (readCall tables area t shard routes limits processed timeout mode range out .answer .counts)
   unfolding readCall
-  every-count-is-at-most-1024 out = go (eqb number 0) refl
+  every-count-is-at-most-the-cached-messages out = go (eqb number 0) refl
     where
       s : Outcome RangeRead
       s = rangeRead tables area t shard routes limits processed timeout mode range (length out)

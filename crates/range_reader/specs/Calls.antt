@@ -1,12 +1,12 @@
 -- What the public call answers, for every argument.
 use Prim.Native.Nat.{ℕ}
-use mathlib.Core.Bool.{false, _&&_}
+use mathlib.Core.Bool.{Bool, false, _&&_}
 use mathlib.Core.List.{List, [], _∷_}
 use lib.Dec.{eqb}
 use lib.ListN.{length}
 use lib.Seq.{sets}
 use Rattle.rows.specs.Rows.{pick}
-use Rattle.range_rules.specs.Rules.{sixSteps, rangeQuestions, contextOf, noCounts, Outcome}
+use Rattle.range_rules.specs.Rules.{rangeAfter, sixSteps, rangeQuestions, contextOf, noCounts, Outcome}
 use Rattle.ext_types.specs.declared.Seconds.{Seconds}
 use Rattle.shard_ident.specs.declared.ShardIdent.{ShardIdent}
 use Rattle.messages_buffer.specs.declared.FillState.{FillState}
@@ -46,15 +46,7 @@ doneAnswer range r t =
       pops = r .pops;
       used = r .walk .buffers .used;
       counts = r .walk .counts;
-      range = record {
-        seqno = range .seqno;
-        from = range .from;
-        to = r .walk .place .to;
-        «current_position» = r .walk .place .position;
-        «chain_time» = range .«chain_time»;
-        «fully_read» = r .«fully_read»;
-        «by_partitions» = r .walk .buffers .«by_partitions»;
-      };
+      range = rangeAfter range r;
       state = t;
     }
 
@@ -88,3 +80,8 @@ readCall tables area t shard routes limits processed timeout mode range out =
 -- what the read would answer; nothing is written
 abbrev pub checkCall : List ℕ → List ℕ → AnchorsCacheTransaction → ShardIdent → List ℕ → List ℕ → List ProcessedTo → Seconds → ReadNextExternalsMode → ExternalsRangeReaderState → List ℕ → ReadResult
 checkCall tables area t shard routes limits processed timeout mode range out = record { answer = readCall tables area t shard routes limits processed timeout mode range out .answer; out = out }
+
+-- either of them
+abbrev pub readOrCheckCall : Bool → List ℕ → List ℕ → AnchorsCacheTransaction → ShardIdent → List ℕ → List ℕ → List ProcessedTo → Seconds → ReadNextExternalsMode → ExternalsRangeReaderState → List ℕ → ReadResult
+readOrCheckCall write tables area t shard routes limits processed timeout mode range out =
+    pick write (readCall tables area t shard routes limits processed timeout mode range out) (checkCall tables area t shard routes limits processed timeout mode range out)

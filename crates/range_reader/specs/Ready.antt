@@ -2,9 +2,9 @@
 use Prim.Native.Nat.{ℕ, _+_, _-_, _*_, _≤_, _<_}
 use mathlib.Core.Path.{_≡_}
 use mathlib.Core.Bool.{Bool, true}
-use mathlib.Core.List.{List}
+use mathlib.Core.List.{List, []}
 use lib.Dec.{ltb, eqb}
-use lib.ListN.{length}
+use lib.ListN.{length, drop}
 use lib.Seq.{sets}
 use Rattle.rows.specs.Rows.{pick}
 use Rattle.range_rules.specs.Bounds.{Few}
@@ -13,10 +13,10 @@ use Rattle.router.specs.Router.{routesNumber}
 use Rattle.anchors_cache.specs.declared.AnchorsCache.{AnchorsCache}
 use Rattle.anchors_cache.specs.declared.CachedAnchor.{CachedAnchor}
 use Rattle.cache_rules.specs.Rules.{total, maxAnchors}
-use Rattle.anchors_cache.specs.Tables.{anchorsOf, tablesBytes}
+use Rattle.anchors_cache.specs.Tables.{anchorsOf, withMessages, tablesBytes}
 use Rattle.range_rules.specs.declared.Context.{Context}
 use Rattle.range_rules.specs.declared.RangeRead.{RangeRead}
-use Rattle.range_rules.specs.Rules.{Outcome}
+use Rattle.range_rules.specs.Rules.{Outcome, anchorsRead}
 
 -- questions 2 and 3 were answered "yes", and the room is the output's length
 pub record Ready (x : Context) (routes out : List ℕ) : Type 0 where
@@ -47,6 +47,10 @@ pub record RangeReady (tables area : List ℕ) (c : AnchorsCache) (routes : List
   pub pops : r .pops ≡ 0
   pub number : r .walk .number ≡ 0
   pub used : r .walk .buffers .used ≡ 0
+
+-- the six steps over the anchors that a window stands for
+abbrev pub windowRead : Context → List ℕ → List ℕ → List ℕ → AnchorsCache → RangeRead → Outcome RangeRead
+windowRead x routes tables area c begin = anchorsRead x routes (withMessages (drop (33 * c .base) area) (anchorsOf tables c)) (record { value = begin; entries = [] })
 
 -- a refused read leaves the output as it is, and so does one that does not write
 unfoldable pub readOrRefused : Bool → List ℕ → ℕ → Outcome RangeRead → Outcome RangeRead

@@ -1,17 +1,16 @@
 // The range's read over the cached anchors. The cache is seen by index; the pops are counted.
 ghost use mathlib.Core.Path.{_≡_};
 ghost use mathlib.Core.Bool.{_&&_};
-ghost use mathlib.Core.List.{[]};
 ghost use Prim.Native.Nat.{_+_, _*_, _-_, _^_, _<_, _≤_};
 ghost use lib.ListN.{length, drop};
 ghost use Rattle.rows.specs.Rows.{rows};
 ghost use Rattle.router.specs.Router.{routesNumber};
 ghost use Rattle.cache_rules.specs.Rules.{total, maxAnchors, maxMessages};
-ghost use Rattle.anchors_cache.specs.Tables.{anchors, anchorsOf, withMessages, tablesBytes};
+ghost use Rattle.anchors_cache.specs.Tables.{anchors, anchorsOf, tablesBytes};
 ghost use Rattle.anchors_cache.specs.Calls.{anchorFound};
-ghost use Rattle.range_rules.specs.Rules.{offsetIn, refusedWith, looked, popped, expired, afterPop, leave, finished, anchorRead, fullyRead, anchorsRead};
+ghost use Rattle.range_rules.specs.Rules.{offsetIn, refusedWith, looked, popped, expired, afterPop, leave, finished, anchorRead, fullyRead};
 ghost use Rattle.range_rules.specs.Refusals.{cannotRefuse};
-ghost use Rattle.range_reader.specs.Ready.{AnchorReady, RangeReady, Wrote, firstUnread, readOrRefused};
+ghost use Rattle.range_reader.specs.Ready.{AnchorReady, RangeReady, Wrote, firstUnread, windowRead, readOrRefused};
 use crate::messages;
 use crate::refusals;
 use anchors_cache::AnchorsCache;
@@ -241,7 +240,7 @@ fn anchors_read(
     out: &mut [u8],
 ) -> RangeRead
     requires { ⌜ RangeReady (now tables) (now area) c (now routes) x begin (now out) ⌝ }
-    ensures { λ q. ⌜ Wrote write (begin .walk .buffers .used) (now (out .entry)) (now (out .exit)) q (anchorsRead x (now (routes .entry)) (withMessages (drop (33 * c .base) (now (area .entry))) (anchorsOf (now (tables .entry)) c)) (record { value = begin; entries = [] })) ⌝ }
+    ensures { λ q. ⌜ Wrote write (begin .walk .buffers .used) (now (out .entry)) (now (out .exit)) q (windowRead x (now (routes .entry)) (now (tables .entry)) (now (area .entry)) c begin) ⌝ }
 {
     let mut r = begin;
     let mut at = c.first;
@@ -296,7 +295,7 @@ pub(crate) fn read_or_refuse(
     out: &mut [u8],
 ) -> RangeRead
     requires { ⌜ RangeReady (now tables) (now area) c (now routes) x begin (now out) ⌝ }
-    ensures { λ q. ⌜ record { value = q; entries = now (out .exit) } ≡ readOrRefused write (now (out .entry)) (begin .walk .buffers .used) (anchorsRead x (now (routes .entry)) (withMessages (drop (33 * c .base) (now (area .entry))) (anchorsOf (now (tables .entry)) c)) (record { value = begin; entries = [] })) ⌝ }
+    ensures { λ q. ⌜ record { value = q; entries = now (out .exit) } ≡ readOrRefused write (now (out .entry)) (begin .walk .buffers .used) (windowRead x (now (routes .entry)) (now (tables .entry)) (now (area .entry)) c begin) ⌝ }
 {
     if writes_at_once(tables, c, routes, x, begin, write) {
         return anchors_read(tables, area, c, routes, x, begin, true, &mut *out);

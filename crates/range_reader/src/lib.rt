@@ -1,8 +1,7 @@
 // One range's read of externals: document 01's six steps over the cached anchors.
 // A refused read answers the number and leaves transaction, range and every output byte as at entry.
 ghost use mathlib.Core.Path.{_≡_};
-ghost use Rattle.rows.specs.Rows.{pick};
-ghost use Rattle.range_reader.specs.Calls.{readCall, checkCall, refusedAnswer, doneAnswer};
+ghost use Rattle.range_reader.specs.Calls.{readCall, checkCall, readOrCheckCall, refusedAnswer, doneAnswer};
 ghost use Rattle.range_rules.specs.Rules.{contextOf, entryOf};
 use anchors_cache::AnchorsCacheTransaction;
 use ext_types::ChainTime;
@@ -197,7 +196,7 @@ fn read_or_check(
     write: bool,
     out: &mut [u8],
 ) -> ReadExternals
-    ensures { λ r. ⌜ record { answer = r; out = now (out .exit) } ≡ pick write (readCall (now (tables .entry)) (now (area .entry)) t shard (now (routes .entry)) limits processed timeout mode range (now (out .entry))) (checkCall (now (tables .entry)) (now (area .entry)) t shard (now (routes .entry)) limits processed timeout mode range (now (out .entry))) ⌝ }
+    ensures { λ r. ⌜ record { answer = r; out = now (out .exit) } ≡ readOrCheckCall write (now (tables .entry)) (now (area .entry)) t shard (now (routes .entry)) limits processed timeout mode range (now (out .entry)) ⌝ }
 {
     let asked = questions::asked(tables, area, t, shard, routes, limits, range);
     if asked.number != 0 {

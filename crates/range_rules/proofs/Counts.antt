@@ -5,7 +5,7 @@ use mathlib.Core.Bool.{Bool, true, false, not, _&&_, _||_}
 use mathlib.Core.List.{List, [], _∷_}
 use native.Mathlib.Omega.{arith}
 use lib.Dec.{eqb}
-use lib.ListN.{length, getD, set, length-append}
+use lib.ListN.{length, getD, set, length-append, replicate}
 use Rattle.rows.specs.Rows.{pick}
 use Rattle.rows.proofs.Laws.{pick-both, length-le}
 use Rattle.ext_types.specs.Keys.{keyAbove}
@@ -27,6 +27,11 @@ use Rattle.range_rules.specs.Rules.{Outcome, silent, advanced, ends, sto
 use Rattle.range_rules.specs.Bounds.{Within}
 
 -- ---- lists of counts
+pub zeros : (n i k : ℕ) → getD (replicate n 0) i 0 ≤ k
+zeros zero i k = omega arith
+zeros (suc n) zero k = omega arith
+zeros (suc n) (suc i) k = zeros n i k
+
 set-le : (l : List ℕ) (p v m i : ℕ) → v ≤ m → ((j : ℕ) → getD l j 0 ≤ m) → getD (set l p v) i 0 ≤ m
 set-le [] p v m i a h = h i
 set-le (x ∷ l) zero v m zero a h = a

@@ -191,7 +191,7 @@ expired x time counts w r =
 
 -- ---- step 6
 abbrev pub leave : Walk → ChainTime → ℕ → Bool → Bool → RangeRead
-leave w time pops full ended = record { walk = w; pops = pops; «fully_read» = full; ended = ended; last = Time time }
+leave w time pops fully ended = record { walk = w; pops = pops; «fully_read» = fully; ended = ended; last = Time time }
 
 abbrev pub afterPop : Bool → ℕ → ℕ
 afterPop true pops = pops + 1
@@ -274,6 +274,19 @@ entryOf range full =
 -- the six steps, from the range as it is at entry, over the cached anchors
 abbrev pub sixSteps : Context → List ℕ → ExternalsRangeReaderState → List Anchor → Outcome RangeRead
 sixSteps x routes range anchors = anchorsRead x routes anchors (silent (entryOf range (rangeFull (x .limits) (range .«by_partitions»))))
+
+-- the range that a read leaves
+abbrev pub rangeAfter : ExternalsRangeReaderState → RangeRead → ExternalsRangeReaderState
+rangeAfter range r =
+    record {
+      seqno = range .seqno;
+      from = range .from;
+      to = r .walk .place .to;
+      «current_position» = r .walk .place .position;
+      «chain_time» = range .«chain_time»;
+      «fully_read» = r .«fully_read»;
+      «by_partitions» = r .walk .buffers .«by_partitions»;
+    }
 
 -- the questions 1, 2, 3, 4, 5 (of the cache, whose number is `five`, and of the range), 9 and 10; n is the length of
 -- the message area

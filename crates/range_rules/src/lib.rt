@@ -8,7 +8,9 @@ use shard_ident::ShardIdent;
 // Bytes of an output entry.
 pub const ENTRY_LEN: usize = 26;
 
-// A range; `current_position` is the place after the last message read, `to` the furthest place ever read to.
+// A range. `current_position` is where its next read goes on: the place after the last message read; the id and offset
+// of an expired anchor that was passed since; the last imported anchor's end, once the block's own range is fully read;
+// before any of these, where the range began. `to` is the furthest place ever read to.
 #[repr(C)]
 pub struct ExternalsRangeReaderState {
     pub seqno: u32,
@@ -98,7 +100,7 @@ pub struct RangeRead {
     pub last: LastChainTime,
 }
 
-// What becomes of a message of ours.
+// What becomes of a message of ours. `Keep`: it is counted as read and not buffered; `Buffer`: both.
 pub enum Verdict {
     Keep,
     Buffer,

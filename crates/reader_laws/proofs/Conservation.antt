@@ -1,158 +1,202 @@
--- Every message of ours that any range passed is counted, once for each range that passed it.
-use Prim.Native.Nat.{ℕ, zero, suc, _+_, _-_, _<_}
-use mathlib.Core.Path.{_≡_, refl, sym, ap, _∙_}
+-- The turns of a read of all, each with what its range passed: which messages were counted, and where the range stands.
+use Prim.Native.Nat.{ℕ, zero, suc, _+_, _-_, _<_, _≤_}
+use mathlib.Core.Path.{_≡_, refl, sym, ap, subst, _∙_}
 use mathlib.Core.Bool.{Bool, true, false}
-use mathlib.Core.List.{List, [], _∷_, _++_}
+use mathlib.Core.List.{List, [], _∷_}
 use native.Mathlib.Omega.{arith}
 use lib.Dec.{eqb}
-use lib.ListN.{getD, take, drop}
+use lib.ListN.{getD, set, take, drop, replicate}
 use borrow.Author.Tests.{eqb-true}
 use Rattle.rows.specs.Rows.{pick}
+use Rattle.rows.proofs.Laws.{pick-both}
 use Rattle.router.specs.Router.{routesNumber}
-use Rattle.messages_buffer.specs.Fullness.{rangeFull, partitionsNumber, limitedNumber, firstNo}
-use Rattle.cache_rules.specs.Rules.{Anchor, Cache, popFront}
+use Rattle.messages_buffer.specs.Fullness.{partitionsNumber, limitedNumber, firstNo}
+use Rattle.messages_buffer.proofs.Laws.{first-zero, first-alone}
+use Rattle.cache_rules.specs.Rules.{Anchor, Cache}
 use Rattle.anchors_cache.specs.Calls.{closedTransaction}
 use Rattle.cache_laws.specs.Book.{popTimes}
 use Rattle.range_rules.specs.declared.Context.{Context}
 use Rattle.range_rules.specs.declared.RangeRead.{RangeRead}
-use Rattle.range_rules.specs.declared.ReadCounts.{ReadCounts}
 use Rattle.range_rules.specs.declared.ExternalsRangeReaderState.{ExternalsRangeReaderState}
-use Rattle.range_rules.specs.declared.ReadNextExternalsMode.{ReadNextExternalsMode}
-use Rattle.range_rules.specs.Rules.{Outcome, silent, followed, contextOf, entryOf}
+use Rattle.range_rules.specs.Rules.{Outcome, silent, followed, contextOf, rangeAfter}
+use Rattle.range_rules.proofs.Conservation.{oursIn, passedIn, unreadAll, frontUnread, expiredOurs, allBuffered, frontBuffered, allPosition, frontPosition, allTo, frontTo, ReadPassed, a-read-passes-the-messages-in-order-and-counts-each}
 use Rattle.range_reader.specs.Calls.{refusedAnswer, doneAnswer}
-use Rattle.rows.proofs.Laws.{pick-both}
-use Rattle.messages_buffer.proofs.Laws.{first-zero, first-alone}
-use Rattle.range_reader.proofs.CallLaws.{zeros}
-use Rattle.range_rules.proofs.Conservation.{oursIn, passedIn, unreadAll, frontUnread, Conserved, every-message-of-ours-passed-is-counted-as-read-or-expired}
 use Rattle.reader_rules.specs.declared.Fixed.{Fixed}
 use Rattle.reader_rules.specs.declared.RangesRead.{RangesRead}
+use Rattle.reader_rules.specs.declared.SoFar.{SoFar}
 use Rattle.reader_rules.specs.State.{noRange}
-use Rattle.reader_rules.specs.Rules.{isSkipped, modeFor, sums, countsAdded, Told, afterTurn, turn, isOver, turns, wantsNext, withNextRange, rangesRead, atEntry}
-use Rattle.externals_reader.specs.Calls.{told}
+use Rattle.reader_rules.specs.Rules.{isSkipped, modeFor, settled, sums, Told, numbered, notAllRead, readOf, afterTurn, readTurn, turn, isOver, turns, wantsNext, withNextRange, rangesRead, atEntry}
 use Rattle.reader_rules.proofs.Each.{each-at}
+use Rattle.externals_reader.specs.Calls.{told}
 use Rattle.reader_laws.specs.AllRanges.{HandedAll, bookFixed, rangeSteps, bookRange, bookAllRead}
 
--- one range's read: in its context it popped n anchors and passed k messages of the next one
-pub record RangePassed : Type 0 where
-  pub context : Context
-  pub n : ℕ
-  pub k : ℕ
+-- ---- one range's turn
+-- range i as the turn finds it, what its read fixes at entry, and the anchors that the turns before left
+abbrev found : RangesRead → ℕ → ExternalsRangeReaderState
+found r i = getD (r .ranges) i noRange
 
--- ours in partition p that it passed, of the anchors that it found
-unfoldable pub oursPassed : List ℕ → ℕ → List Anchor → RangePassed → ℕ
-oursPassed routes p l q =
-    oursIn (q .context .shard) routes p (unreadAll (q .context) (take (q .n) l)) + oursIn (q .context .shard) routes p (take (q .k) (frontUnread (q .context) (drop (q .n) l)))
+abbrev contextAt : Fixed → RangesRead → ℕ → Context
+contextAt x r i = contextOf (x .shard) (x .limits) (x .processed) (x .params .«externals_expire_timeout») (modeFor x (found r i .seqno)) (found r i) (x .room - r .«so_far» .used)
 
--- ranges one after another: each finds what the pops before it left
-unfoldable pub oursPassedBy : List ℕ → ℕ → Cache → List RangePassed → ℕ
-oursPassedBy routes p v [] = 0
-oursPassedBy routes p v (q ∷ l) = oursPassed routes p (v .anchors) q + oursPassedBy routes p (popTimes (q .n) v) l
+abbrev anchorsAt : Cache → RangesRead → List Anchor
+anchorsAt v r = popTimes (r .«so_far» .pops) v .anchors
 
-unfoldable pub popsOf : List RangePassed → ℕ
-popsOf [] = 0
-popsOf (q ∷ l) = q .n + popsOf l
+-- The turn of range i, which went from r to q: n anchors were popped and k messages of the next one passed. `range` is
+-- what the read leaves.
+pub record TurnRead (x : Fixed) (routes : List ℕ) (v : Cache) (i n k : ℕ) (r q : RangesRead) : Type 0 where
+  pub range : ExternalsRangeReaderState
+  pub position : range .«current_position» ≡ frontPosition (contextAt x r i) k (drop n (anchorsAt v r)) (allPosition (contextAt x r i) (take n (anchorsAt v r)) (found r i .«current_position»))
+  pub to : range .to ≡ frontTo (contextAt x r i) k (drop n (anchorsAt v r)) (allTo (contextAt x r i) (take n (anchorsAt v r)) (found r i .to))
+  pub ranges : q .ranges ≡ set (r .ranges) i (settled x range)
+  pub pops : q .«so_far» .pops ≡ r .«so_far» .pops + n
+  pub expired : (p : ℕ) → p < 8 → getD (q .«so_far» .counts .expired) p 0 ≡ getD (r .«so_far» .counts .expired) p 0 + expiredOurs (contextAt x r i) routes p (take n (anchorsAt v r))
+  pub passed : (p : ℕ) → p < 8 → passedIn (q .«so_far» .counts) p
+      ≡ passedIn (r .«so_far» .counts) p + (oursIn (x .shard) routes p (unreadAll (contextAt x r i) (take n (anchorsAt v r))) + oursIn (x .shard) routes p (take k (frontUnread (contextAt x r i) (drop n (anchorsAt v r)))))
+  pub buffered : (p : ℕ) → p < 8 → getD (q .«so_far» .counts .buffered) p 0
+      ≡ getD (r .«so_far» .counts .buffered) p 0 + getD (frontBuffered (contextAt x r i) routes k (drop n (anchorsAt v r)) (allBuffered (contextAt x r i) routes (take n (anchorsAt v r)) (replicate 8 0))) p 0
 
-pub record AllConserved (routes : List ℕ) (v : Cache) (r : RangesRead) : Type 0 where
-  pub ranges : List RangePassed
-  pub pops : r .«so_far» .pops ≡ popsOf ranges
-  pub counts : (p : ℕ) → p < 8 → passedIn (r .«so_far» .counts) p ≡ oursPassedBy routes p v ranges
+-- pops, used bytes and counts as before
+pub record SameSums (s q : SoFar) : Type 0 where
+  pub pops : q .pops ≡ s .pops
+  pub used : q .used ≡ s .used
+  pub counts : q .counts ≡ s .counts
 
--- ---- one more range
-pops-more : (m n : ℕ) (v : Cache) → popTimes (m + n) v ≡ popTimes n (popTimes m v)
-unfolding popTimes
-pops-more zero n v = let e : 0 + n ≡ n = omega arith in rw e
-pops-more (suc m) n v = let e : suc m + n ≡ suc (m + n) = omega arith in rw e (pops-more m n (popFront v))
+-- ---- the whole read as a list of turns
+-- a range that was passed over or refused, the next range appended, a range that was read
+pub data TurnOf : Type 0 where
+  over : SoFar → TurnOf
+  next : TurnOf
+  read : ℕ → ℕ → ℕ → RangesRead → TurnOf
 
-pops-snoc : (l : List RangePassed) (q : RangePassed) → popsOf (l ++ (q ∷ [])) ≡ popsOf l + q .n
-unfolding popsOf
-pops-snoc [] q = omega arith
-pops-snoc (r ∷ l) q = omega (arith, pops-snoc l q)
+-- r becomes q by these turns, each on what the one before left, in the order of the ranges from `from` on
+unfoldable pub Trace : Fixed → List ℕ → Cache → ℕ → List TurnOf → RangesRead → RangesRead → Type 0
+Trace x routes v from [] r q = q ≡ r
+Trace x routes v from (over s ∷ l) r q = SameSums (r .«so_far») s × Trace x routes v from l (readOf s (r .ranges) (r .len)) q
+Trace x routes v from (next ∷ l) r q = Trace x routes v from l (withNextRange x r) q
+Trace x routes v from (read i n k m ∷ l) r q = (from ≤ i) × (TurnRead x routes v i n k r m × Trace x routes v (i + 1) l m q)
 
-passed-snoc : (routes : List ℕ) (p : ℕ) (v : Cache) (l : List RangePassed) (q : RangePassed) → oursPassedBy routes p v (l ++ (q ∷ [])) ≡ oursPassedBy routes p v l + oursPassed routes p (popTimes (popsOf l) v .anchors) q
-unfolding oursPassedBy popsOf popTimes
-passed-snoc routes p v [] q = omega arith
-passed-snoc routes p v (r ∷ l) q =
-    let e = passed-snoc routes p (popTimes (r .n) v) l q in
-    let f : popTimes (r .n + popsOf l) v ≡ popTimes (popsOf l) (popTimes (r .n) v) = pops-more (r .n) (popsOf l) v in
-    rw f (omega (arith, e))
+-- some turns
+pub record Traced (x : Fixed) (routes : List ℕ) (v : Cache) (from : ℕ) (r q : RangesRead) : Type 0 where
+  pub list : List TurnOf
+  pub trace : Trace x routes v from list r q
+
+earlier : (x : Fixed) (routes : List ℕ) (v : Cache) (from to : ℕ) → from ≤ to → (l : List TurnOf) (r q : RangesRead) → Trace x routes v to l r q → Trace x routes v from l r q
+unfolding Trace
+earlier x routes v from to h [] r q t = t
+earlier x routes v from to h (over s ∷ l) r q t = (t .0, earlier x routes v from to h l (readOf s (r .ranges) (r .len)) q (t .1))
+earlier x routes v from to h (next ∷ l) r q t = earlier x routes v from to h l (withNextRange x r) q t
+earlier x routes v from to h (read i n k m ∷ l) r q t = let g = t .0 in (omega arith, t .1)
 
 module _ (routes : List ℕ) (sound : routesNumber routes ≡ 0) (x : Fixed) (v : Cache) where
-  module _ (i : ℕ) (r : RangesRead) (h : AllConserved routes v r) where
-    module _ (mode : ReadNextExternalsMode) (range : ExternalsRangeReaderState) (room : ℕ) where
-      abbrev context : Context
-      context = contextOf (x .shard) (x .limits) (x .processed) (x .params .«externals_expire_timeout») mode range room
+  module _ (i : ℕ) (r : RangesRead) where
+    abbrev six-steps : Outcome RangeRead
+    six-steps = rangeSteps routes x (popTimes (r .«so_far» .pops) v) (modeFor x (found r i .seqno)) (found r i) (x .room - r .«so_far» .used)
 
-      abbrev found : List Anchor
-      found = popTimes (r .«so_far» .pops) v .anchors
+    abbrev number : ℕ
+    number = firstNo (partitionsNumber (found r i .«by_partitions») ∷ limitedNumber (x .limits) (found r i .«by_partitions») ∷ six-steps .value .walk .number ∷ [])
 
-      abbrev six-steps : Outcome RangeRead
-      six-steps = rangeSteps routes x (popTimes (r .«so_far» .pops) v) mode range room
+    steps-passed : number ≡ 0 → ReadPassed (contextAt x r i) routes (found r i) (anchorsAt v r) (six-steps .value)
+    unfolding rangeSteps
+    steps-passed z =
+        a-read-passes-the-messages-in-order-and-counts-each (contextAt x r i) routes sound (found r i) (anchorsAt v r)
+        (sym (first-alone (six-steps .value .walk .number)) ∙ first-zero _ _ (first-zero _ _ z .1) .1)
 
-      abbrev number : ℕ
-      number = firstNo (partitionsNumber (range .«by_partitions») ∷ limitedNumber (x .limits) (range .«by_partitions») ∷ six-steps .value .walk .number ∷ [])
+    abbrev added-here : RangesRead
+    added-here = afterTurn x i r (told (doneAnswer (found r i) (six-steps .value) closedTransaction))
 
-      conserved : number ≡ 0 → Conserved context routes found (entryOf range (rangeFull (x .limits) (range .«by_partitions»))) (six-steps .value)
-      unfolding rangeSteps
-      conserved z =
-          let w = sym (first-alone (six-steps .value .walk .number)) ∙ first-zero _ _ (first-zero _ _ z .1) .1 in
-          every-message-of-ours-passed-is-counted-as-read-or-expired context routes sound found (silent (entryOf range (rangeFull (x .limits) (range .«by_partitions»)))) refl (record { read = refl; expired = refl }) w
+    sum-at : (a b : List ℕ) (p : ℕ) → p < 8 → getD (sums a b) p 0 ≡ getD a p 0 + getD b p 0
+    unfolding sums
+    sum-at a b p few = each-at 8 (λ j. getD a j 0 + getD b j 0) p 0 few
 
-      added : (a b : ReadCounts) (p : ℕ) → p < 8 → passedIn (countsAdded a b) p ≡ passedIn a p + passedIn b p
-      unfolding sums
-      added a b p few =
-          rw (each-at 8 (λ j. getD (a .read) j 0 + getD (b .read) j 0) p 0 few, each-at 8 (λ j. getD (a .expired) j 0 + getD (b .expired) j 0) p 0 few) (omega arith)
+    turn-read : (z : number ≡ 0) → TurnRead x routes v i (steps-passed z .n) (steps-passed z .k) r added-here
+    unfolding afterTurn
+    turn-read z =
+        let c = steps-passed z in
+        let a = r .«so_far» .counts in
+        let b = six-steps .value .walk .counts in
+        record {
+          range = rangeAfter (found r i) (six-steps .value);
+          position = c .position;
+          to = c .to;
+          ranges = refl;
+          pops = ap (λ (m : ℕ). r .«so_far» .pops + m) (c .pops);
+          expired = λ p few. sum-at (a .expired) (b .expired) p few ∙ ap (λ (m : ℕ). getD (a .expired) p 0 + m) (c .expired p);
+          passed = λ p few. omega (arith, sum-at (a .read) (b .read) p few, sum-at (a .expired) (b .expired) p few, c .passed p);
+          buffered = λ p few. sum-at (a .buffered) (b .buffered) p few ∙ ap (λ (l : List ℕ). getD (a .buffered) p 0 + getD l p 0) (c .buffered);
+        }
 
-      read-conserved : AllConserved routes v (afterTurn x i r (bookRange routes x v (r .«so_far» .pops) mode range room .value))
-      unfolding afterTurn bookRange oursPassed
-      read-conserved = go (eqb number 0) refl
-        where
-          done : Outcome Told
-          done = record { value = told (doneAnswer range (six-steps .value) closedTransaction); entries = six-steps .entries }
+    read-traced : (from : ℕ) → from ≤ i → (q : RangesRead) → Traced x routes v (i + 1) (readTurn (bookRange routes x v) x i r (found r i) .value) q → Traced x routes v from r q
+    unfolding bookRange afterTurn Trace
+    read-traced from h q = go (eqb number 0) refl
+      where
+        refused : RangesRead
+        refused = readOf (numbered number (r .«so_far»)) (r .ranges) (r .len)
 
-          go : (b : Bool) → eqb number 0 ≡ b → AllConserved routes v (afterTurn x i r (pick b done (silent (told (refusedAnswer number range closedTransaction))) .value))
-          go true e =
-              let c = conserved (eqb-true number 0 e) in
-              let q : RangePassed = record { context = context; n = c .n; k = c .k } in
-              let s = h .pops in
-              record {
-                ranges = h .ranges ++ (q ∷ []);
-                pops = omega (arith, c .pops, pops-snoc (h .ranges) q);
-                counts = λ p few.
-                    let f : popTimes (popsOf (h .ranges)) v ≡ popTimes (r .«so_far» .pops) v = ap (λ (m : ℕ). popTimes m v) (sym s) in
-                    let g = rw f at (passed-snoc routes p v (h .ranges) q) in
-                    added (r .«so_far» .counts) (six-steps .value .walk .counts) p few ∙ omega (arith, c .counts p, h .counts p few, g, zeros 8 p 0);
-              }
-          go false e = rw e (record { ranges = h .ranges; pops = h .pops; counts = h .counts })
+        done : Outcome Told
+        done = record { value = told (doneAnswer (found r i) (six-steps .value) closedTransaction); entries = six-steps .entries }
 
-    turn-conserved : AllConserved routes v (turn (bookRange routes x v) x i r .value)
-    unfolding turn
-    turn-conserved =
-        let P : Outcome RangesRead → Type 0 = λ s. AllConserved routes v (s .value) in
-        let range = getD (r .ranges) i noRange in
-        pick-both P (range .«fully_read») _ _ h
-        (pick-both P (isSkipped x range) _ _ (record { ranges = h .ranges; pops = h .pops; counts = h .counts }) (read-conserved (modeFor x (range .seqno)) range (x .room - r .«so_far» .used)))
+        left : eqb number 0 ≡ false → afterTurn x i r (told (refusedAnswer number (found r i) closedTransaction)) ≡ refused
+        left e = rw e
 
-  turns-conserved : (n i : ℕ) (s : Outcome RangesRead) → AllConserved routes v (s .value) → AllConserved routes v (turns (bookRange routes x v) x n i s .value)
+        go : (b : Bool) → eqb number 0 ≡ b
+            → Traced x routes v (i + 1) (afterTurn x i r (pick b done (silent (told (refusedAnswer number (found r i) closedTransaction))) .value)) q → Traced x routes v from r q
+        go true e t = record { list = read i (steps-passed (eqb-true number 0 e) .n) (steps-passed (eqb-true number 0 e) .k) added-here ∷ t .list; trace = (h, (turn-read (eqb-true number 0 e), t .trace)) }
+        go false e t =
+            let g : Trace x routes v (i + 1) (t .list) refused q = subst (λ (m : RangesRead). Trace x routes v (i + 1) (t .list) m q) (left e) (t .trace) in
+            record { list = over (numbered number (r .«so_far»)) ∷ t .list; trace = (record { pops = refl; used = refl; counts = refl }, earlier x routes v from (i + 1) (omega arith) (t .list) refused q g) }
+
+    turn-traced : (from : ℕ) → from ≤ i → (q : RangesRead) → Traced x routes v (i + 1) (turn (bookRange routes x v) x i r .value) q → Traced x routes v from r q
+    unfolding turn Trace
+    turn-traced from h q =
+        let P : Outcome RangesRead → Type 0 = λ s. Traced x routes v (i + 1) (s .value) q → Traced x routes v from r q in
+        let none = readOf (notAllRead (r .«so_far»)) (r .ranges) (r .len) in
+        pick-both P (found r i .«fully_read») _ _ (λ t. record { list = t .list; trace = earlier x routes v from (i + 1) (omega arith) (t .list) r q (t .trace) })
+        (pick-both P (isSkipped x (found r i)) _ _
+        (λ t. record { list = over (notAllRead (r .«so_far»)) ∷ t .list; trace = (record { pops = refl; used = refl; counts = refl }, earlier x routes v from (i + 1) (omega arith) (t .list) none q (t .trace)) })
+        (read-traced from h q))
+
+  turns-traced : (n i : ℕ) (s : Outcome RangesRead) (q : RangesRead) → Traced x routes v (i + n) (turns (bookRange routes x v) x n i s .value) q → Traced x routes v i (s .value) q
   unfolding turns
-  turns-conserved zero i s h = h
-  turns-conserved (suc n) i s h =
-      let P : Outcome RangesRead → Type 0 = λ q. AllConserved routes v (q .value) in
-      let t = turn (bookRange routes x v) x i (s .value) in
-      pick-both P (isOver (s .value)) s (turns (bookRange routes x v) x n (i + 1) (followed s t)) h (turns-conserved n (i + 1) (followed s t) (turn-conserved i (s .value) h))
+  turns-traced zero i s q = λ t. record { list = t .list; trace = earlier x routes v i (i + 0) (omega arith) (t .list) (s .value) q (t .trace) }
+  turns-traced (suc n) i s q =
+      let u = followed s (turn (bookRange routes x v) x i (s .value)) in
+      let e : i + suc n ≡ i + 1 + n = omega arith in
+      let P : Outcome RangesRead → Type 0 = λ w. Traced x routes v (i + suc n) (w .value) q → Traced x routes v i (s .value) q in
+      pick-both P (isOver (s .value)) s (turns (bookRange routes x v) x n (i + 1) u)
+      (λ t. record { list = t .list; trace = earlier x routes v i (i + suc n) (omega arith) (t .list) (s .value) q (t .trace) })
+      (λ t. turn-traced i (s .value) i (omega arith) q (turns-traced n (i + 1) u q (subst (λ (m : ℕ). Traced x routes v m (turns (bookRange routes x v) x n (i + 1) u .value) q) e t)))
 
-  all-conserved : (r : RangesRead) → AllConserved routes v r → AllConserved routes v (rangesRead (bookRange routes x v) x r .value)
-  unfolding rangesRead withNextRange
-  all-conserved r h =
-      let P : Outcome RangesRead → Type 0 = λ q. AllConserved routes v (q .value) in
+  -- the turns leave the number of ranges
+  turn-len : (i : ℕ) (r : RangesRead) → turn (bookRange routes x v) x i r .value .len ≡ r .len
+  unfolding turn afterTurn
+  turn-len i r =
+      let P : Outcome RangesRead → Type 0 = λ s. s .value .len ≡ r .len in
+      let Q : RangesRead → Type 0 = λ q. q .len ≡ r .len in
+      let a = bookRange routes x v (r .«so_far» .pops) (modeFor x (found r i .seqno)) (found r i) (x .room - r .«so_far» .used) .value in
+      pick-both P (found r i .«fully_read») _ _ refl (pick-both P (isSkipped x (found r i)) _ _ refl (pick-both Q (eqb (a .number) 0) _ _ refl refl))
+
+  turns-len : (n i : ℕ) (s : Outcome RangesRead) → turns (bookRange routes x v) x n i s .value .len ≡ s .value .len
+  unfolding turns
+  turns-len zero i s = refl
+  turns-len (suc n) i s =
+      let u = followed s (turn (bookRange routes x v) x i (s .value)) in
+      let P : Outcome RangesRead → Type 0 = λ w. w .value .len ≡ s .value .len in
+      pick-both P (isOver (s .value)) s (turns (bookRange routes x v) x n (i + 1) u) refl (turns-len n (i + 1) u ∙ turn-len i (s .value))
+
+  all-traced : (r : RangesRead) → Traced x routes v 0 r (rangesRead (bookRange routes x v) x r .value)
+  unfolding rangesRead Trace
+  all-traced r =
       let s = turns (bookRange routes x v) x (r .len) 0 (silent r) in
-      let g = turns-conserved (r .len) 0 (silent r) h in
-      pick-both P (wantsNext x (s .value)) _ s (turn-conserved (s .value .len) (withNextRange x (s .value)) (begun (s .value) g)) g
-    where
-      begun : (q : RangesRead) → AllConserved routes v q → AllConserved routes v (withNextRange x q)
-      begun q g = record { ranges = g .ranges; pops = g .pops; counts = g .counts }
+      let e : s .value .len ≡ r .len = turns-len (r .len) 0 (silent r) in
+      let longer = turn (bookRange routes x v) x (s .value .len) (withNextRange x (s .value)) .value in
+      let P : Outcome RangesRead → Type 0 = λ q. Traced x routes v 0 r (q .value) in
+      let a = turn-traced (s .value .len) (withNextRange x (s .value)) (0 + r .len) (omega arith) longer (record { list = []; trace = refl }) in
+      pick-both P (wantsNext x (s .value)) _ s
+      (turns-traced (r .len) 0 (silent r) longer (record { list = next ∷ a .list; trace = a .trace }))
+      (turns-traced (r .len) 0 (silent r) (s .value) (record { list = []; trace = refl }))
 
--- the counts are the sums over the ranges that were read, each on what the pops before it left
-pub every-message-of-ours-passed-by-any-range-is-counted-as-read-or-expired : (h : HandedAll) (v : Cache) → routesNumber (h .routes) ≡ 0 → AllConserved (h .routes) v (bookAllRead h v .value)
-unfolding bookAllRead oursPassedBy popsOf
-every-message-of-ours-passed-by-any-range-is-counted-as-read-or-expired h v sound =
-    all-conserved (h .routes) sound (bookFixed h v) v (atEntry (h .reader .«reader_state»)) (record { ranges = []; pops = refl; counts = λ p few. omega (arith, zeros 8 p 0) })
+-- every range that is read is read in its own context, on what the pops before it left, and what it passed is added
+pub every-message-of-ours-passed-by-any-range-is-counted-as-read-or-expired : (h : HandedAll) (v : Cache) → routesNumber (h .routes) ≡ 0
+    → Traced (bookFixed h v) (h .routes) v 0 (atEntry (h .reader .«reader_state»)) (bookAllRead h v .value)
+unfolding bookAllRead
+every-message-of-ours-passed-by-any-range-is-counted-as-read-or-expired h v sound = all-traced (h .routes) sound (bookFixed h v) v (atEntry (h .reader .«reader_state»))

@@ -1,22 +1,24 @@
 -- Demand 3, whole: one claim about every list of calls between an open and a close, and what it says of an abandoned
 -- attempt and of a committed one.
-use Prim.Native.Nat.{ℕ, _≤_}
-use mathlib.Core.Path.{_≡_}
+use Prim.Native.Nat.{ℕ, zero, suc, _≤_}
+use mathlib.Core.Path.{_≡_, refl, ap}
 use mathlib.Core.Bool.{true, false}
-use mathlib.Core.List.{List, [], map}
+use mathlib.Core.List.{List, [], _∷_, map}
+use native.Mathlib.Omega.{arith}
 use lib.ListN.{length}
 use Rattle.anchors_cache.specs.declared.AnchorsCacheTransaction.{AnchorsCacheTransaction}
 use Rattle.anchors_cache.specs.declared.Done.{Done}
 use Rattle.anchors_cache.specs.Tables.{view}
-use Rattle.anchors_cache.specs.Calls.{openCall, closeCall}
-use Rattle.cache_laws.specs.Book.{Book, begin, finish, applied, reading, entered, bookNumbers, performed, numbers, committedIn, sinceRollback}
+use Rattle.anchors_cache.specs.declared.MempoolAnchor.{MempoolAnchor}
+use Rattle.anchors_cache.specs.Calls.{onZero, answer, addNumber, addCall, openCall, closeCall}
+use Rattle.cache_laws.specs.Book.{Book, Area, same, short, lent, begin, finish, enter, applied, reading, entered, bookNumbers, performed, numbers, committedIn, sinceRollback}
 use Rattle.cache_laws.specs.Entries.{popping, poppingMany, trimming, committing, rollingBack, closing, opening, clearing, adding}
-use Rattle.cache_laws.proofs.Claim.{Follows, Simulates, lent-follows, short-follows, pop-simulates, pops-simulates, trim-simulates, reading-simulates, commit-simulates, rollback-simulates, add-simulates, open-simulates, clear-simulates, close-refuses, the-book}
+use Rattle.cache_laws.proofs.Claim.{Stands, opened-stands, an-add-in-the-list-writes-nothing, Follows, Simulates, lent-follows, short-follows, pop-simulates, pops-simulates, trim-simulates, reading-simulates, commit-simulates, rollback-simulates, add-simulates, open-simulates, clear-simulates, close-refuses, the-book}
 use Rattle.cache_laws.proofs.Corollaries as corollary
 use Rattle.range_laws.specs.OneRange.{Handed, bookSteps, bookReadNumber, readOnWindow}
 use Rattle.range_laws.proofs.Entered.{one-range}
 use Rattle.reader_laws.specs.AllRanges.{HandedAll, bookAllNumber, bookAllPops, readAllOnWindow}
-use Rattle.reader_laws.specs.Steps.{Step, pop, popFronts, trimAbove, readsOne, readsAll, commit, rollback, adds, opens, clears, closes, call}
+use Rattle.reader_laws.specs.Steps.{Step, pop, popFronts, trimAbove, readsOne, readsAll, commit, rollback, adds, opens, clears, closes, call, LentBytes, handedBytes, addLeaves, leaves, NothingWritten}
 use Rattle.reader_laws.proofs.Entered.{all-ranges}
 use Rattle.cache_rules.specs.Rules.{areaBytes}
 
@@ -42,6 +44,44 @@ each (opens a) = lent-follows opening open-simulates a
 each (clears a) = lent-follows clearing clear-simulates a
 each (closes bytes p) = λ tables area big. short-follows closing close-refuses bytes p tables area
 
+-- ---- no call writes the lent bytes
+by-number : (n : ℕ) (a b c d : List ℕ) → (n ≡ 0 → ⊥) → _≡_ {A = LentBytes} (record { tables = onZero n a b; area = onZero n c d }) (record { tables = b; area = d })
+by-number zero a b c d h = absurd (h refl)
+by-number (suc n) a b c d h = refl
+
+never-0 : (n : ℕ) → ((x y : ℕ) → onZero n x y ≡ y) → n ≡ 0 → ⊥
+never-0 zero h e = let z = h 0 1 in omega arith
+never-0 (suc n) h e = omega arith
+
+module _ (tables area : List ℕ) (big : areaBytes ≤ length area) where
+  add-leaves : (a : Area) (m : MempoolAnchor) (ours : ℕ) (messages : List ℕ) (t : AnchorsCacheTransaction) (b : Book) → Stands tables area t b
+      → addLeaves m ours messages tables (lent area a) t ≡ record { tables = tables; area = lent area a }
+  unfolding addCall answer
+  add-leaves same m ours messages t b s =
+      by-number (addNumber (length area) tables t (m .id) ours (length messages)) _ _ _ _
+      (never-0 _ (λ (x y : ℕ). an-add-in-the-list-writes-nothing tables area big t b s (m .id) ours (length messages) x y))
+  add-leaves (short bytes p) m ours messages t b s =
+      by-number (addNumber (length bytes) tables t (m .id) ours (length messages)) _ _ _ _
+      (λ e. let f = ap (λ (d : Done). d .number) (add-simulates m ours messages .refuses tables bytes p t b .0) in omega (arith, f, e))
+
+  leaves-lent : (k : Step) (t : AnchorsCacheTransaction) (b : Book) → Stands tables area t b → leaves k tables area t ≡ handedBytes k tables area
+  leaves-lent (adds a m ours messages) t b s = add-leaves a m ours messages t b s
+  leaves-lent (pop a) t b s = refl
+  leaves-lent (popFronts a n) t b s = refl
+  leaves-lent (trimAbove a ct) t b s = refl
+  leaves-lent (readsOne a h) t b s = refl
+  leaves-lent (readsAll a h) t b s = refl
+  leaves-lent (commit a) t b s = refl
+  leaves-lent (rollback a) t b s = refl
+  leaves-lent (opens a) t b s = refl
+  leaves-lent (clears a) t b s = refl
+  leaves-lent (closes bytes p) t b s = refl
+
+  nothing-written : (ks : List Step) (t : AnchorsCacheTransaction) (b : Book) → Stands tables area t b → NothingWritten tables area ks t
+  unfolding NothingWritten
+  nothing-written [] t b s = tt
+  nothing-written (k ∷ ks) t b s = (leaves-lent k t b s, nothing-written ks (call k .on-window tables area t .state) (enter area (call k) b) (each k tables area big t b s .1))
+
 -- ---- the claim
 -- a run over one table and one message area, from a transaction on: an open, the calls, a close with the area of the
 -- run
@@ -61,12 +101,14 @@ module _ (tables area : List ℕ) (t : AnchorsCacheTransaction) where
     pub every-number-is-the-book's : numbers tables area (map call steps) opened ≡ bookNumbers area (map call steps) start
     pub the-close-answers-0 : closed steps .number ≡ 0
     pub the-cache-is-the-book's : view tables area (closed steps .state .cache) ≡ finish (entered area (map call steps) start)
+    pub no-call-writes-tables-or-area : NothingWritten tables area steps opened
 
   module _ (opens-with-0 : openCall (length area) tables t .number ≡ 0) (steps : List Step) where
     pub demand-three : RunsAsTheBook steps
     demand-three =
         let p = the-book call each tables area t steps opens-with-0 in
-        record { every-number-is-the-book's = p .0; the-close-answers-0 = p .1; the-cache-is-the-book's = p .2 }
+        let o = opened-stands tables area t opens-with-0 in
+        record { every-number-is-the-book's = p .0; the-close-answers-0 = p .1; the-cache-is-the-book's = p .2; no-call-writes-tables-or-area = nothing-written tables area (o .0) steps opened start (o .1) }
 
     -- with no commit answering 0 the cache is as at opening
     pub an-abandoned-attempt-leaves-the-cache : committedIn area (map call steps) start ≡ false → view tables area (closed steps .state .cache) ≡ view tables area (t .cache)

@@ -101,7 +101,7 @@ module _ (tables area : List ℕ) (t : AnchorsCacheTransaction) (active : t .act
     w = view tables area (t .undo)
 
     -- ---- the questions
-    asked-same : askedOfRead tables area t (h .routes) (h .reader) ≡ bookAsked h area v w
+    pub asked-same : askedOfRead tables area t (h .routes) (h .reader) ≡ bookAsked h area v w
     unfolding askedOfRead bookAsked
     asked-same =
         rw (accepted tables area t big now then, holds-view places tables area (t .cache) (parts places tables (t .cache) now), holds-view places tables area (t .undo) (parts places tables (t .undo) then))
@@ -110,7 +110,7 @@ module _ (tables area : List ℕ) (t : AnchorsCacheTransaction) (active : t .act
         active)
 
     -- ---- all ranges
-    all-same : bookAsked h area v w ≡ 0 → allRead tables area t (h .routes) (h .reader) (h .mode) (length (h .out)) ≡ bookAllRead h v
+    pub all-same : bookAsked h area v w ≡ 0 → allRead tables area t (h .routes) (h .reader) (h .mode) (length (h .out)) ≡ bookAllRead h v
     unfolding allRead bookAllRead bookAsked settledNumber settingsNumber
     all-same z =
         let p2 = first-zero _ _ (first-zero _ _ z .1) in

@@ -3,3 +3,4 @@ pub mod DemandThree
 pub mod Laws
 pub mod Conservation
 pub mod TableOfEight
+pub mod AllPassed

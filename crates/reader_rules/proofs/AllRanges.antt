@@ -1,5 +1,5 @@
 -- Document 01's "All ranges", where it is easily misread: each law is a sentence of the paper.
-use Prim.Native.Nat.{ℕ, suc, _+_}
+use Prim.Native.Nat.{ℕ, suc, _+_, _<_}
 use mathlib.Core.Path.{_≡_, refl, sym, ap, _∙_}
 use mathlib.Core.Bool.{Bool, true, false, not, _&&_, _||_}
 use mathlib.Core.List.{List}
@@ -15,6 +15,7 @@ use Rattle.ext_types.specs.Keys.{keyEqual}
 use Rattle.messages_buffer.specs.declared.ExternalsPartitionRangeReaderState.{ExternalsPartitionRangeReaderState}
 use Rattle.messages_buffer.specs.Fullness.{noLimit}
 use Rattle.range_rules.specs.declared.ExternalsRangeReaderState.{ExternalsRangeReaderState}
+use Rattle.range_rules.specs.declared.ReadCounts.{ReadCounts}
 use Rattle.range_rules.specs.declared.LastChainTime.{LastChainTime}
 use Rattle.range_rules.specs.declared.LastChainTime.the-variants.{Nothing, Time}
 use Rattle.range_rules.specs.declared.ReadNextExternalsMode.the-variants.{ToTheEnd, ToPreviuosReadTo}
@@ -26,7 +27,8 @@ use Rattle.reader_rules.specs.declared.Fixed.{Fixed}
 use Rattle.reader_rules.specs.declared.RangesRead.{RangesRead}
 use Rattle.reader_rules.specs.declared.SoFar.{SoFar}
 use Rattle.reader_rules.specs.State.{noRange, openRangesLimit}
-use Rattle.reader_rules.specs.Rules.{withDefault, rangeEntered, lastOr, nextPartition, nextRange, continues, wantsNext, reached, isOwn, waits, isSkipped, modeFor, movedToEnd, settled, Told, notAllRead, added, readOf, afterTurn, OneRange, readTurn, turn, timeSaved}
+use Rattle.reader_rules.proofs.Each.{each-at}
+use Rattle.reader_rules.specs.Rules.{withDefault, rangeEntered, lastOr, nextPartition, nextRange, continues, wantsNext, reached, isOwn, waits, isSkipped, modeFor, movedToEnd, settled, Told, notAllRead, added, readOf, afterTurn, sums, countsAdded, OneRange, readTurn, turn, timeSaved}
 
 -- ---- `new`
 pub a-partition-that-is-there-stays : (limit : ℕ) (p : ExternalsPartitionReaderState) → p .present ≡ true → withDefault limit p ≡ p
@@ -155,6 +157,16 @@ module _ (one : OneRange) (x : Fixed) (i : ℕ) (r : RangesRead) where
   pub any-other-range-is-read : getD (r .ranges) i noRange .«fully_read» ≡ false → isSkipped x (getD (r .ranges) i noRange) ≡ false → turn one x i r ≡ readTurn one x i r (getD (r .ranges) i noRange)
   unfolding turn
   any-other-range-is-read e k = pick-no _ _ _ e ∙ pick-no _ _ _ k
+
+-- "The call answers the counts, summed."
+module _ (a b : ReadCounts) (p : ℕ) (few : p < 8) where
+  pub the-counts-of-the-ranges-are-summed : (getD (countsAdded a b .read) p 0 ≡ getD (a .read) p 0 + getD (b .read) p 0)
+      × ((getD (countsAdded a b .expired) p 0 ≡ getD (a .expired) p 0 + getD (b .expired) p 0) × (getD (countsAdded a b .buffered) p 0 ≡ getD (a .buffered) p 0 + getD (b .buffered) p 0))
+  unfolding sums
+  the-counts-of-the-ranges-are-summed = (
+    each-at 8 (λ j. getD (a .read) j 0 + getD (b .read) j 0) p 0 few,
+    (each-at 8 (λ j. getD (a .expired) j 0 + getD (b .expired) j 0) p 0 few, each-at 8 (λ j. getD (a .buffered) j 0 + getD (b .buffered) j 0) p 0 few),
+  )
 
 -- ---- the saved last chain time
 pub the-saved-last-chain-time-changes-only-if-one-was-seen : (saved : LastChainTime) → timeSaved Nothing saved ≡ saved

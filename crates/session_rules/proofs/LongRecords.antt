@@ -50,7 +50,7 @@ placed number = go (ltb number 2) refl (eqb number 2) refl (ltb number 3) refl
     go false e false f true g = let x = ltb-false number 2 e in let y = ltb-true number 3 g in absurd (eqb-false number 2 f (omega arith))
     go false e false f false g = refl
 
-module _ (kind : ℕ) (p : List ℕ) (long : 16946 < length p) where
+module _ (kind : ℕ) (p : List ℕ) (long : 50 + 33 * maxAnchorMessages < length p) where
   -- only an anchor can be so long
   stated-long : asStated kind p ≡ (eqb kind 4 && eqb (length p) (50 + 33 * numAt 2 48 p))
   unfolding asStated
@@ -93,7 +93,7 @@ module _ (kind : ℕ) (p : List ℕ) (long : 16946 < length p) where
 
 -- ---- question 6 of too many messages
 module _ (len : ℕ) (tables : List ℕ) (t : AnchorsCacheTransaction) (p : List ℕ) where
-  too-many-number : 16946 < length p → anchorNumber len tables t p ≡ firstNo (refusal len tables t ∷ 6 ∷ [])
+  too-many-number : 50 + 33 * maxAnchorMessages < length p → anchorNumber len tables t p ≡ firstNo (refusal len tables t ∷ 6 ∷ [])
   unfolding anchorNumber addNumber refusal rightSize firstNo
   too-many-number long =
       let d = length-drop 50 p in
@@ -104,7 +104,7 @@ module _ (len : ℕ) (tables : List ℕ) (t : AnchorsCacheTransaction) (p : List
       go true false = refl
       go false b = refl
 
-  add-refuses-too-many : 16946 < length p → anchorNumber len tables t p ≡ 0 → ⊥
+  add-refuses-too-many : 50 + 33 * maxAnchorMessages < length p → anchorNumber len tables t p ≡ 0 → ⊥
   unfolding firstNo
   add-refuses-too-many long e = go (refusal len tables t) (sym (too-many-number long) ∙ e)
     where
@@ -129,7 +129,7 @@ record-0-or-17 number kind p = go (inPlace number kind && asStated kind p)
     go false = inr refl
 
 module _ (rec : List ℕ) (long : longestRecord < length rec) where
-  payload-long : 16946 < length (drop 2 rec)
+  payload-long : 50 + 33 * maxAnchorMessages < length (drop 2 rec)
   payload-long = let d = length-drop 2 rec in omega arith
 
   -- question 17 first, then those of `add`: the number of the whole record is that of its first 52 bytes

@@ -198,8 +198,8 @@ plainLeft s tables area routes text kind p =
 unfoldable pub isTaken : Session → List ℕ → Bool
 isTaken s r = pick (s .stopped) false (pick (ltb (length r) 2) false (eqb (recordNumber (recordCounted s .records) (numAt 2 0 r) (drop 2 r)) 0))
 
--- ---- a record of n bytes that are too many to be lent, by its first 52: 17 unless it is an anchor of its stated length,
--- else as `add` answers for more than 512 messages
+-- ---- a record of n bytes that are too many to be lent, by its first 52: 17 unless it is an anchor of its stated
+-- length, else as `add` answers for more than 512 messages
 unfoldable pub longNumber : ℕ → List ℕ → ℕ → AnchorsCacheTransaction → List ℕ → ℕ → ℕ
 longNumber len tables number t head n =
     pick (ltb number 3) 17

@@ -24,7 +24,16 @@ struct Driver<'c> {
     area: usize,
     /// of the record
     number: u64,
+    /// the number of the record's call, if it made one
+    called: Option<u8>,
     calls: &'c mut Calls,
+}
+
+/// All that the library holds between two calls.
+struct Whole {
+    state: State,
+    tables: Box<[u8]>,
+    area: Box<[u8]>,
 }
 
 fn count(calls: &mut Calls, name: &'static str, number: u8) {
@@ -68,13 +77,13 @@ pub fn session(bytes: &[u8], calls: &mut Calls) -> String {
         Ok(e) => e,
         Err(Bad(n)) => return format!("bad {} {n}\n", input.number),
     };
-    let mut d = Driver { e, routes: Vec::new(), text: String::new(), places: 1024, area: AREA_BYTES, number: 0, calls };
+    let mut d = Driver { e, routes: Vec::new(), text: String::new(), places: 1024, area: AREA_BYTES, number: 0, called: None, calls };
     loop {
         let done = match input.next() {
             Ok(None) => break d.end(),
             Ok(Some(record)) => {
                 d.number = input.number;
-                d.record(record)
+                d.asked(record)
             }
             Err(bad) => Err(bad),
         };
@@ -90,6 +99,34 @@ pub fn session(bytes: &[u8], calls: &mut Calls) -> String {
 }
 
 impl Driver<'_> {
+    fn whole(&self) -> Whole {
+        let state = State { transaction: *self.e.transaction(), reader: *self.e.reader() };
+        Whole { state, tables: self.e.tables().into(), area: self.e.area().into() }
+    }
+
+    /// A record, with odd numbers wherever nothing is held. A refused call leaves all, a done one what is free.
+    fn asked(&mut self, record: Record<'_>) -> Result<(), Bad> {
+        put::odd(&mut self.e, self.number as u32);
+        let was = self.whole();
+        self.called = None;
+        let done = self.record(record);
+        let now = self.whole();
+        match self.called {
+            None => {}
+            Some(0) => assert!(free::is_kept(&was.state, &now.state), "record {}", self.number),
+            Some(n) => {
+                assert_eq!(was.state, now.state, "record {}, refused by {n}", self.number);
+                assert!(was.tables == now.tables && was.area == now.area, "record {}, refused by {n}", self.number);
+            }
+        }
+        done
+    }
+
+    fn count(&mut self, name: &'static str, number: u8) {
+        self.called = Some(number);
+        count(self.calls, name, number);
+    }
+
     fn record(&mut self, (kind, mut f): Record<'_>) -> Result<(), Bad> {
         match kind {
             2 => return self.route(f.0),
@@ -117,7 +154,7 @@ impl Driver<'_> {
             0x114 => self.at_ct(ChainTime(f.u64())),
             0x115 => {
                 let yes = self.e.check_has_pending_externals_in_range(put::key(&mut f));
-                count(self.calls, "in_range", number(&yes));
+                self.count("in_range", number(&yes));
                 writeln!(self.text, "in_range {}", u8::from(sure(yes))).unwrap();
             }
             _ => {
@@ -131,13 +168,13 @@ impl Driver<'_> {
 
     /// A call that prints nothing; where it is refused the session ends.
     fn quiet(&mut self, name: &'static str, done: Result<(), Refused>) -> Result<(), Bad> {
-        count(self.calls, name, number(&done));
+        self.count(name, number(&done));
         done.map_err(|Refused(n)| Bad(n))
     }
 
     fn line<T>(&mut self, name: &'static str, answer: &Result<T, Refused>) {
         let n = number(answer);
-        count(self.calls, name, n);
+        self.count(name, n);
         writeln!(self.text, "{name} {n}").unwrap();
     }
 
@@ -146,12 +183,7 @@ impl Driver<'_> {
         if self.area == AREA_BYTES {
             return call(&mut self.e);
         }
-        let area = self.e.parts_mut().2;
-        let part = area[..self.area].into();
-        let whole = std::mem::replace(area, part);
-        let answer = call(&mut self.e);
-        *self.e.parts_mut().2 = whole;
-        answer
+        self.e.with_area(self.area, call)
     }
 
     fn route(&mut self, route: &[u8]) -> Result<(), Bad> {
@@ -200,7 +232,7 @@ impl Driver<'_> {
 
     fn at_ct(&mut self, ct: ChainTime) {
         let answer = self.e.last_imported_anchor_info_at_ct(ct);
-        count(self.calls, "at_ct", number(&answer));
+        self.count("at_ct", number(&answer));
         match sure(answer) {
             None => self.text += "at_ct none\n",
             Some((i, _)) => writeln!(self.text, "at_ct {} {} {} {}", i.id, i.ct.0, i.all_exts_count, i.our_exts_count).unwrap(),
@@ -249,7 +281,7 @@ impl Driver<'_> {
         let mut range = self.e.ranges()[i];
         let answer = self.lent(|e| e.read_externals_into_buffers(&mut range, settings, &routes, &mut out));
         // a refused read's range is taken too: it must be as at entry
-        self.e.parts_mut().0.reader.reader_state.ranges[i] = range;
+        self.e.reader_mut().reader_state.ranges[i] = range;
         self.line("one", &answer);
         let used = answer.map_or(0, |a| a.used);
         assert!(out[used..].iter().all(|&b| b == FILL), "bytes beyond those used have changed");
@@ -319,7 +351,7 @@ impl Driver<'_> {
             _ => e.get_partition_ids().map(|there| (0..PARTITIONS).filter(|&i| there[i]).map(|i| format!(" {i}")).collect()),
         };
         let (name, n) = (FUNCTIONS[which as usize], number(&answer));
-        count(self.calls, name, n);
+        self.count(name, n);
         writeln!(self.text, "{name} {n}{}", answer.unwrap_or_default()).unwrap();
     }
 

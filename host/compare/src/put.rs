@@ -41,11 +41,11 @@ pub fn range(e: &mut Externals, f: &mut Fields<'_>) -> Result<(), Bad> {
         Err(_) if ranges.len() == RANGES => return Err(Bad(5)),
         Err(i) => ranges.insert(i, range),
     }
-    let state = &mut e.parts_mut().0.reader.reader_state;
+    let state = &mut e.reader_mut().reader_state;
     state.len = ranges.len();
     state.ranges[..ranges.len()].copy_from_slice(&ranges);
     e.get_partition_ids().map(drop).map_err(|Refused(n)| {
-        e.parts_mut().0.reader.reader_state = old;
+        e.reader_mut().reader_state = old;
         Bad(n)
     })
 }
@@ -53,11 +53,11 @@ pub fn range(e: &mut Externals, f: &mut Fields<'_>) -> Result<(), Bad> {
 pub fn partition(e: &mut Externals, f: &mut Fields<'_>) {
     let i = f.u8() as usize;
     let partition = Partition { present: f.flag(), processed_to: key(f), curr_processed_offset: f.u32() };
-    e.parts_mut().0.reader.reader_state.by_partitions[i] = partition;
+    e.reader_mut().reader_state.by_partitions[i] = partition;
 }
 
 pub fn marks(e: &mut Externals, f: &mut Fields<'_>) {
-    let reader = &mut e.parts_mut().0.reader;
+    let reader = e.reader_mut();
     reader.all_ranges_fully_read = f.flag();
     reader.reader_state.last_read_to_anchor_chain_time = SavedTime { present: f.flag(), time: ChainTime(f.u64()) };
 }
@@ -73,15 +73,11 @@ fn append(table: &mut [u8], first: usize, len: usize, bytes: &[u8]) -> usize {
 
 /// A history entry: the payload is its row.
 pub fn history(e: &mut Externals, row: &[u8]) -> Result<(), Bad> {
-    let t = *e.transaction();
-    if t.active {
-        return Err(Bad(9));
-    }
-    if t.cache.history_len == HISTORY {
+    let (state, tables, _) = e.parts_mut().map_err(|Refused(n)| Bad(n))?;
+    let cache = &mut state.transaction.cache;
+    if cache.history_len == HISTORY {
         return Err(Bad(5));
     }
-    let (state, tables, _) = e.parts_mut();
-    let cache = &mut state.transaction.cache;
     let from = append(&mut tables[..CACHED_FROM], HISTORY_ROW * cache.history_first, HISTORY_ROW * cache.history_len, row);
     cache.history_first = from / HISTORY_ROW;
     cache.history_len += 1;
@@ -95,18 +91,15 @@ pub fn anchors(e: &Externals) -> Vec<(CachedAnchor, [u8; 32])> {
 
 /// A cached anchor, without history: the payload is its row, then its messages.
 pub fn cached(e: &mut Externals, p: &[u8]) -> Result<(), Bad> {
-    if e.transaction().active {
-        return Err(Bad(9));
-    }
     let there = anchors(e);
     let used: usize = there.iter().map(|(a, _)| a.count).sum();
     let (id, ours, count) = (Fields(p).u32(), Fields(&p[44..]).u32() as usize, Fields(&p[48..]).u16() as usize);
     let sound = 0 < ours && ours <= count && count <= 512;
     let above = there.last().is_none_or(|(a, _)| a.id < id);
+    let (state, tables, area) = e.parts_mut().map_err(|Refused(n)| Bad(n))?;
     if !sound || !above || there.len() == CACHED || MESSAGES < used + count {
         return Err(Bad(5));
     }
-    let (state, tables, area) = e.parts_mut();
     let cache = &mut state.transaction.cache;
     let end = CACHED_FROM + CACHED * CACHED_ROW;
     cache.first = append(&mut tables[CACHED_FROM..end], CACHED_ROW * cache.first, CACHED_ROW * cache.len, &p[..CACHED_ROW]) / CACHED_ROW;
@@ -114,4 +107,12 @@ pub fn cached(e: &mut Externals, p: &[u8]) -> Result<(), Bad> {
     cache.len += 1;
     cache.pending = true;
     Ok(())
+}
+
+/// Odd numbers in every place that holds nothing.
+pub fn odd(e: &mut Externals, n: u32) {
+    free::fill_reader(e.reader_mut(), n);
+    if let Ok((state, _, _)) = e.parts_mut() {
+        free::fill_transaction(&mut state.transaction, n);
+    }
 }

@@ -10,7 +10,11 @@
 //! ```compile_fail
 //! let p = externals::Params { externals_expire_timeout: externals::ChainTime(60), open_ranges_limit: 4, new_is_some: false };
 //! ```
+#[doc(hidden)]
+pub mod free;
 mod raw;
+#[cfg(test)]
+mod refused;
 mod types;
 
 pub use types::*;
@@ -130,8 +134,25 @@ impl Externals {
     }
 
     /// State, tables and message area, to go on from kept ones. Any values and lengths are safe: a call that finds less than it needs answers 1 or 5.
-    pub fn parts_mut(&mut self) -> (&mut State, &mut Box<[u8]>, &mut Box<[u8]>) {
-        (&mut self.state, &mut self.tables, &mut self.area)
+    /// While a transaction is open nobody else touches them: 9.
+    pub fn parts_mut(&mut self) -> Result<(&mut State, &mut Box<[u8]>, &mut Box<[u8]>), Refused> {
+        let number = if self.state.transaction.active { 9 } else { 0 };
+        done(number, (&mut *self.state, &mut self.tables, &mut self.area))
+    }
+
+    /// The reader, to go on from a kept one; no transaction restores it.
+    pub fn reader_mut(&mut self) -> &mut Reader {
+        &mut self.state.reader
+    }
+
+    /// A call that is lent only the first bytes of the area.
+    #[doc(hidden)]
+    pub fn with_area<R>(&mut self, bytes: usize, call: impl FnOnce(&mut Externals) -> R) -> R {
+        let part = self.area[..bytes].into();
+        let whole = std::mem::replace(&mut self.area, part);
+        let answer = call(self);
+        self.area = whole;
+        answer
     }
 
     /// Rows of the history from byte 0, of the cached anchors from byte 13,312 on.

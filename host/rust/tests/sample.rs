@@ -108,20 +108,32 @@ fn whose_and_where() {
 fn parts_that_do_not_fit() {
     let mut out = vec![9; 1024 * ENTRY_BYTES];
     let mut e = sample();
-    *e.parts_mut().2 = Box::default();
+    *e.parts_mut().unwrap().2 = Box::default();
     assert_eq!(e.open(), Err(Refused(1)));
     let mut e = sample();
-    *e.parts_mut().1 = Box::default();
+    *e.parts_mut().unwrap().1 = Box::default();
     assert_eq!((e.open(), e.get(0), e.pop_front()), (Err(Refused(5)), Err(Refused(5)), Err(Refused(5))));
     let mut e = sample();
-    e.open().unwrap();
-    e.parts_mut().0.transaction.cache.first = usize::MAX;
+    let t = &mut e.parts_mut().unwrap().0.transaction;
+    (t.active, t.cache.first) = (true, usize::MAX);
     assert_eq!(e.read_into_buffers(Mode::Continue, &[], &mut out).unwrap_err(), Refused(5));
     assert_eq!(e.close(), Err(Refused(5)));
     let mut e = sample();
     e.open().unwrap();
-    e.parts_mut().0.reader.reader_state.len = usize::MAX;
+    e.reader_mut().reader_state.len = usize::MAX;
     assert_eq!(e.read_into_buffers(Mode::Continue, &[], &mut out).unwrap_err(), Refused(5));
     assert_eq!((e.finalize(), e.has_messages_in_buffers()), (Err(Refused(5)), Err(Refused(5))));
     assert!(out.iter().all(|&b| b == 9));
+}
+
+#[test]
+fn parts_are_handed_out_only_without_a_transaction() {
+    let mut e = sample();
+    assert!(e.parts_mut().is_ok());
+    e.open().unwrap();
+    assert_eq!(e.parts_mut().unwrap_err(), Refused(9));
+    e.commit().unwrap();
+    assert_eq!(e.parts_mut().unwrap_err(), Refused(9));
+    e.close().unwrap();
+    assert!(e.parts_mut().is_ok());
 }

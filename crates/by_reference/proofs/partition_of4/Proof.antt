@@ -49,7 +49,12 @@ use denote.Triple.Spec.{Meets, tripleOf}
 use denote.Triple.Table.{entered, cited}
 use denote.Triple.Walked.{says, Stays, stay-none, walkOf, goes-none, Walks, ends-at, walked, walk-meets}
 use denote.Exit.{yes}
-use Rattle.by_reference.specs.Search.{firstPartitionIn}
+use denote.Enum.Laws as EL
+use Rattle.router.specs.Router.{answerOf}
+use Rattle.router.specs.declared.Routed.{Routed}
+use Rattle.router.proofs.Routed as Q
+use Rattle.router.proofs.Routed.Laws as Q′
+use Rattle.by_reference.specs.Search.{getPartitionIn}
 use Rattle.by_reference.specs.declared.Route.{Route}
 use Rattle.by_reference.proofs.Route as T
 use Rattle.by_reference.proofs.Route.Laws as T′
@@ -151,12 +156,12 @@ module _ {M : Type 1} (𝓤 : URA M) (H : Heap 𝓤) (A : Atoms 𝓤) (W : Given
       qed W (‵ (flft (ν ∷ []) fullShare) ∷ ‵ (Ref ν γ l) ∷ []) ∵ nothing ! $ move ! (1 ∷ 0 ∷ []) $ join ! $ nothing ! $ owned ! Account (Is Account) (array-makes 𝓤 H A W u8 (uint-makes 𝓤 H A W w8) 32) acc _ ga $ fjoin ! $
       owned ! i8 (Is i8) (sint-makes 𝓤 H A W w8) z _ gz $ fjoin ! $ move ! (2 ∷ 0 ∷ []) $ fjoin ! $ move ! (1 ∷ 0 ∷ []) $ join ! $ frame ! $ done !
 
-  said-get : (ν : ℕ) (γ : GName) (l : ℕ) (r : ℕ) → ent 𝓤 (ensured 𝓤 H A get.ended (get.clauses 𝓤 H A mem run) (ν ∷ [], tt) (passed γ l) tt r) (fact 𝓤 (r ≡ firstPartitionIn ys z acc))
-  said-get ν γ l r = exE 𝓤 _ (λ ws. snd∗ 𝓤 (sem 𝓤 H A (lasts get.ended (ν ∷ [], tt) (passed γ l) ws)) (fact 𝓤 (r ≡ firstPartitionIn ys z acc)))
+  said-get : (ν : ℕ) (γ : GName) (l : ℕ) (r : Routed) → ent 𝓤 (ensured 𝓤 H A get.ended (get.clauses 𝓤 H A mem run) (ν ∷ [], tt) (passed γ l) tt r) (fact 𝓤 (answerOf r ≡ getPartitionIn ys z acc))
+  said-get ν γ l r = exE 𝓤 _ (λ ws. snd∗ 𝓤 (sem 𝓤 H A (lasts get.ended (ν ∷ [], tt) (passed γ l) ws)) (fact 𝓤 (answerOf r ≡ getPartitionIn ys z acc)))
 
-  exits : (r : ℕ) (u : Val) → r ≡ firstPartitionIn ys z acc → ent 𝓤 (sem 𝓤 H A (u8 .own r (u ∷ []))) (Post u)
+  exits : (r : Routed) (u : Val) → answerOf r ≡ getPartitionIn ys z acc → ent 𝓤 (sem 𝓤 H A (Q.the-row .own r (u ∷ []))) (Post u)
   exits r u e =
-      qed W (‵ (u8 .own r (u ∷ [])) ∷ []) ∵ suffices ! _ (ends-at 𝓤 H A partition-of4.ended stayed (partition-of4.clauses 𝓤 H A mem run) W ((tt, tt, tt, x, at), tt) u r (tt, (tt, (tt, tt))) (tt, (tt, (tt, tt)))) $ says ! e $
+      qed W (‵ (Q.the-row .own r (u ∷ [])) ∷ []) ∵ suffices ! _ (ends-at 𝓤 H A partition-of4.ended stayed (partition-of4.clauses 𝓤 H A mem run) W ((tt, tt, tt, x, at), tt) u r (tt, (tt, (tt, tt))) (tt, (tt, (tt, tt)))) $ says ! e $
       nothing ! $ owned ! Account (Is Account) (array-makes 𝓤 H A W u8 (uint-makes 𝓤 H A W w8) 32) acc _ ga $ fjoin ! $ owned ! i8 (Is i8) (sint-makes 𝓤 H A W w8) z _ gz $ fjoin ! $
       owned ! Four (Is Four) (array-makes 𝓤 H A W R (LL.makes T.the-type T′.the-plain 𝓤 H A) 4) ys _ gy $ fjoin ! $ nothing ! $ done !
 
@@ -178,13 +183,13 @@ module _ {M : Type 1} (𝓤 : URA M) (H : Heap 𝓤) (A : Atoms 𝓤) (W : Given
         move ! (2 ∷ 0 ∷ []) $ use2 W (raw (Get 𝓤 H A mem run .pre (to-get ν γ l₄))) (goes-get ν γ l₄) $
         -- [what get_partition asks; the lender's part; _6; …; _5; …; that _4 dies; _3; …; _2; …; _1; …; room for _0; …]
         calls-at ! fm (Get 𝓤 H A mem run) known (to-get ν γ l₄) (and-then ! (load ! (from ! (stop !)) (look ! 2 refl)) (and-then ! (load ! (from ! (stop !)) (look ! 9 refl)) (and-then ! (load ! (from ! (stop !)) (look ! 7 refl)) (no-more !)))) (λ u.
-        use1 W (later (some (λ (r : ℕ). ((‵ (flft (ν ∷ []) fullShare) ⊛ ‵ ftrue) ⊛ ‵ (u8 .own r (u ∷ []))) ⊛ raw (ensured 𝓤 H A get.ended (get.clauses 𝓤 H A mem run) (ν ∷ [], tt) (passed γ l₄) tt r)))) (id⊢ 𝓤 _) $ await ! tt $ pick ! (λ r.
-        split ! $ move ! (1 ∷ []) $ use1 W (raw (fact 𝓤 (r ≡ firstPartitionIn ys z acc))) (said-get ν γ l₄ r) $ heard ! (r ≡ firstPartitionIn ys z acc) (λ e. split ! $ split ! $
+        use1 W (later (some (λ (r : Routed). ((‵ (flft (ν ∷ []) fullShare) ⊛ ‵ ftrue) ⊛ ‵ (Q.the-row .own r (u ∷ []))) ⊛ raw (ensured 𝓤 H A get.ended (get.clauses 𝓤 H A mem run) (ν ∷ [], tt) (passed γ l₄) tt r)))) (id⊢ 𝓤 _) $ await ! tt $ pick ! (λ r.
+        split ! $ move ! (1 ∷ []) $ use1 W (raw (fact 𝓤 (answerOf r ≡ getPartitionIn ys z acc))) (said-get ν γ l₄ r) $ heard ! (answerOf r ≡ getPartitionIn ys z acc) (λ e. split ! $ split ! $
         -- the lifetime is ended, and the array is there again
         lft-end ! tt $ move ! (0 ∷ 3 ∷ []) $ lent-back ! tt $ rewrite ! 0 (λ (m : ℕ). ‵ (arr-parts (shares R) m .part fullShare ys l₄ 0)) long refl $ use1 W (‵ (fat fullShare four l₄ 0 (only (fvals ys)))) (together 𝓤 H A W ys l₄) $
-        move ! (2 ∷ []) $ peeks ! u8 (Is u8) (shows 𝓤 H A u8) r (u ∷ []) (λ is.
+        move ! (2 ∷ []) $ peeks ! Q.the-row (Is Q.the-row) (shows 𝓤 H A Q.the-row) r (u ∷ []) (λ is.
         -- [the result; _4; true; _6; …; _5; …; that _4 dies; _3; …; _2; …; _1; …; room for _0; …]
-        land ! (from ! (stop !)) (init ! 14 refl (uint-lawful 𝓤 H A W w8 .typed r _ is .0)) $
+        land ! (from ! (stop !)) (init ! 14 refl (EL.lawful Q.the-type Q′.the-laws 𝓤 H A W tt .typed r _ is .0)) $
         returns ! (look ! 14 refl) $ forget ! 1 refl $ forget ! 3 refl $ forget ! 5 refl $ forget ! 8 refl $ forget ! 10 refl $ forget ! 12 refl $ forget ! 14 refl $
         move ! (14 ∷ 15 ∷ []) $ free1 ! $ move ! (12 ∷ 13 ∷ []) $ free1 ! $ move ! (10 ∷ 11 ∷ []) $ free1 ! $ move ! (8 ∷ 9 ∷ []) $ free1 ! $ move ! (1 ∷ 7 ∷ []) $ free1 ! $ move ! (4 ∷ 5 ∷ []) $ free1 ! $ move ! (2 ∷ 3 ∷ []) $ free1 ! $ free0 ! $
         keep ! (0 ∷ []) $ by ! (exits r u e))))))))))))))

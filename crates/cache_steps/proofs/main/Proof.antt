@@ -15,17 +15,11 @@ new-requires c κs = search needs
 loop-holds : tie.Need-loop-holds Inv-loop μ-loop
 loop-holds c = search needs
 
-step-requires : tie.Need-step-requires Inv-loop μ-loop
-step-requires c κs = search needs
+turn-requires : tie.Need-turn-requires Inv-loop μ-loop
+turn-requires c κs = search needs
 
-of-cache-requires : tie.Need-of-cache-requires Inv-loop μ-loop
-of-cache-requires c κs = search needs
-
-put-cache-requires : tie.Need-put-cache-requires Inv-loop μ-loop
-put-cache-requires c κs = search needs
-
-flushed-requires : tie.Need-flushed-requires Inv-loop μ-loop
-flushed-requires c κs = search needs
+returns : tie.Need-returns Inv-loop μ-loop
+returns c = search needs
 
 add-i : tie.Need-add-i Inv-loop μ-loop
 add-i c = search needs
@@ -39,8 +33,8 @@ loop-again c = search needs
 finish-requires : tie.Need-finish-requires Inv-loop μ-loop
 finish-requires c κs = search needs
 
-returns : tie.Need-returns Inv-loop μ-loop
-returns c = search needs
+returns-2 : tie.Need-returns-2 Inv-loop μ-loop
+returns-2 c = search needs
 
 pub main-spec : {M : Type 1} → statement M
 main-spec =
@@ -50,12 +44,10 @@ main-spec =
     μ-loop
     new-requires
     loop-holds
-    step-requires
-    of-cache-requires
-    put-cache-requires
-    flushed-requires
+    turn-requires
+    returns
     add-i
     loop-less
     loop-again
     finish-requires
-    returns)
+    returns-2)

@@ -7,9 +7,7 @@ use denote.Triple.Table.{entered, cited}
 use mathlib.Core.List.{[], _∷_}
 use mir.Syntax.{w8, tyInt}
 use Rattle.by_reference.proofs.Thin.{by-value, thin-meets}
-use Rattle.externals_reader.specs.Calls.{setLimitsCall}
-use Rattle.host.specs.Shapes.{readerOf}
-use Rattle.host.specs.Calls.{readerShown}
+use Rattle.host.specs.Calls.{onReader, limitsSet}
 use Rattle.host.proofs.BufferLimits as L
 use Rattle.host.proofs.BufferLimits.Laws as L′
 use Rattle.host.proofs.Reader as R
@@ -30,5 +28,5 @@ unfolding code.routine tablesOf
 ext-set-buffer-limits-by-partition-spec 𝓤 H 𝓜 𝓖 𝓡 =
     entered 𝓤 H (tripleOf 𝓤 H (𝓖 .A) f.signature (f.spec 𝓤 H (𝓖 .A) (𝓜 .mem) (𝓡 .run)))
     (tables 𝓤 H 𝓜 𝓡 code.env .C) (tables 𝓤 H 𝓜 𝓡 code.env .Λ) #host·ext-set-buffer-limits-by-partition code.function (code.unfolded 𝓤 H 𝓜 𝓡)
-    (thin-meets R.the-type R′.the-laws R′.the-plain (tyInt w8) (O.struct .name) number-and-reader (by-value 0 L.the-type L′.the-laws ∷ []) (λ s r. readerShown (setLimitsCall (readerOf r) (s .0 .«by_partitions»))) #host·cores·limits-set 𝓤 H (𝓖 .A) (givenOf 𝓤 H 𝓜 𝓖) (tablesOf 𝓤 H 𝓜 (tables 𝓤 H 𝓜 𝓡 code.env))
+    (thin-meets R.the-type R′.the-laws R′.the-plain (tyInt w8) (O.struct .name) number-and-reader (by-value 0 L.the-type L′.the-laws ∷ []) (λ s. onReader (limitsSet (s .0))) #host·cores·limits-set 𝓤 H (𝓖 .A) (givenOf 𝓤 H 𝓜 𝓖) (tablesOf 𝓤 H 𝓜 (tables 𝓤 H 𝓜 𝓡 code.env))
     (cited 𝓤 H (tripleOf 𝓤 H (𝓖 .A) core.signature (core.spec 𝓤 H (𝓖 .A) (𝓜 .mem) (𝓡 .run))) 𝓜 𝓡 code.env #host·cores·limits-set core-def.routine code.calls-host·cores·limits-set (core-thm.met 𝓤 H 𝓜 𝓖 𝓡)))

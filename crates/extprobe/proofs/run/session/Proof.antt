@@ -3,13 +3,10 @@ use Rattle.extprobe.proofs.run.session.Statement.{statement}
 use Rattle.extprobe.proofs.run.session.Tie as tie
 
 abbrev Inv-loop : tie.InvT-loop
-Inv-loop bytes end tables₀ area₀ routes₀ text₀ plain run₀ turns₀ tables area routes text run turns = Unit
+Inv-loop bytes end tables₀ area₀ routes₀ text₀ run₀ turns₀ tables area routes text run turns = Unit
 
 abbrev μ-loop : tie.MeasureT-loop
-μ-loop bytes end tables₀ area₀ routes₀ text₀ plain run₀ turns₀ tables area routes text run turns = turns
-
-new-requires : tie.Need-new-requires Inv-loop μ-loop
-new-requires c κs = search needs
+μ-loop bytes end tables₀ area₀ routes₀ text₀ run₀ turns₀ tables area routes text run turns = turns
 
 wrapping-add-usize-requires : tie.Need-wrapping-add-usize-requires Inv-loop μ-loop
 wrapping-add-usize-requires c κs = search needs
@@ -41,7 +38,6 @@ session-spec =
     (tie.spec
     Inv-loop
     μ-loop
-    new-requires
     wrapping-add-usize-requires
     loop-holds
     step-requires

@@ -18,8 +18,8 @@ group-mode-requires c κs = search needs
 read-into-buffers-requires : tie.Need-read-into-buffers-requires
 read-into-buffers-requires c κs = search needs
 
-held-reader-requires : tie.Need-held-reader-requires
-held-reader-requires c κs = search needs
+left-reader-requires : tie.Need-left-reader-requires
+left-reader-requires c κs = search needs
 
 same-length : tie.Need-same-length
 same-length c = search needs
@@ -29,14 +29,14 @@ unfolding readAll
 returns c =
     let c-read-into-buffers = c .before .before .before .before .before .read-into-buffers in
     let c-group-mode = c .before .before .before .before .before .before .before .group-mode in
-    let x = c .before .before .before .before .before .before .before .before .before .before .before .before .before .before .args in
+    let x = c .before .before .before .before .before .before .before .before .before .before .before .before .before .before .before .args in
     let a = c-read-into-buffers .result in
     let e =
     c-read-into-buffers .ensures
     ∙ ap (λ (r : ExternalsReader). readAllCall (x .tables .now) (x .area .now) (x .e .transaction) (x .routes .now) r (c-group-mode .result) (x .out .now)) (c .before .before .before .before .before .before .before .before .reader-of .ensures)
     ∙ ap (λ (m : GetNextMessageGroupMode). readAllCall (x .tables .now) (x .area .now) (x .e .transaction) (x .routes .now) (readerOf (x .e .reader)) m (x .out .now)) (c-group-mode .ensures)
     in (
-      ap (λ (r : Reader). record { answer = record { number = a .number; used = a .used; counts = a .counts }; state = record { transaction = a .state; reader = r } }) (c .held-reader .ensures) ∙ ap (λ (q : ReadAllResult). readAllShown (q .answer)) e,
+      ap (λ (r : Reader). record { answer = record { number = a .number; used = a .used; counts = a .counts }; state = record { transaction = a .state; reader = r } }) (c .left-reader .ensures) ∙ ap (λ (q : ReadAllResult). readAllShown (x .e .reader) (q .answer)) e,
       ap (λ (q : ReadAllResult). q .out) e,
     )
 
@@ -47,6 +47,6 @@ all-read-spec =
     reader-of-requires
     group-mode-requires
     read-into-buffers-requires
-    held-reader-requires
+    left-reader-requires
     same-length
     returns)

@@ -20,7 +20,7 @@ unfolding newShown
 returns c =
     let r = c .before .before .before .before .before .before .before .args .reader in
     c .after .ensures
-    ∙ ap readerShown
+    ∙ ap (readerShown r)
     (c .before .new .ensures
     ∙ ap (λ (s : ExternalsReaderState). newCall (handedIn (r .«for_shard_id») (r .«block_seqno») (r .«next_chain_time») (r .«msgs_exec_params») (r .«buffer_limits_by_partitions») s)) (c .before .before .state-of .ensures))
 

@@ -15,7 +15,7 @@ after-requires : tie.Need-after-requires
 after-requires c κs = search needs
 
 returns : tie.Need-returns
-returns c = c .after .ensures ∙ ap readerShown (c .before .finalize .ensures ∙ ap finalizeCall (c .before .before .reader-of .ensures))
+returns c = c .after .ensures ∙ ap (readerShown (c .before .before .before .args .reader)) (c .before .finalize .ensures ∙ ap finalizeCall (c .before .before .reader-of .ensures))
 
 pub finalized-spec : {M : Type 1} → statement M
 finalized-spec = tie.close (tie.spec reader-of-requires finalize-requires after-requires returns)

@@ -16,7 +16,7 @@ after-requires : tie.Need-after-requires
 after-requires c κs = search needs
 
 returns : tie.Need-returns
-returns c = c .after .ensures ∙ ap readerShown (c .before .set-from-to-current-position-in-last-range-state .ensures ∙ ap setFromCall (c .before .before .reader-of .ensures))
+returns c = c .after .ensures ∙ ap (readerShown (c .before .before .before .args .reader)) (c .before .set-from-to-current-position-in-last-range-state .ensures ∙ ap setFromCall (c .before .before .reader-of .ensures))
 
 pub from-set-spec : {M : Type 1} → statement M
 from-set-spec =

@@ -15,7 +15,9 @@ after-requires : tie.Need-after-requires
 after-requires c κs = search needs
 
 returns : tie.Need-returns
-returns c = c .after .ensures ∙ ap readerShown (c .before .increment-curr-processed-offset .ensures ∙ ap (incrementCall (c .before .before .before .args .par-id)) (c .before .before .reader-of .ensures))
+returns c =
+    let c-args = c .before .before .before .args in
+    c .after .ensures ∙ ap (readerShown (c-args .reader)) (c .before .increment-curr-processed-offset .ensures ∙ ap (incrementCall (c-args .par-id)) (c .before .before .reader-of .ensures))
 
 pub incremented-spec : {M : Type 1} → statement M
 incremented-spec =

@@ -16,7 +16,7 @@ after-requires : tie.Need-after-requires
 after-requires c κs = search needs
 
 returns : tie.Need-returns
-returns c = c .after .ensures ∙ ap readerShown (c .before .drop-last-read-to-anchor-chain-time .ensures ∙ ap dropLastCall (c .before .before .reader-of .ensures))
+returns c = c .after .ensures ∙ ap (readerShown (c .before .before .before .args .reader)) (c .before .drop-last-read-to-anchor-chain-time .ensures ∙ ap dropLastCall (c .before .before .reader-of .ensures))
 
 pub last-dropped-spec : {M : Type 1} → statement M
 last-dropped-spec =

@@ -16,7 +16,7 @@ after-requires : tie.Need-after-requires
 after-requires c κs = search needs
 
 returns : tie.Need-returns
-returns c = c .after .ensures ∙ ap readerShown (c .before .set-buffer-limits-by-partition .ensures ∙ ap (λ (r : ExternalsReader). setLimitsCall r (c .before .before .before .before .args .limits .«by_partitions»)) (c .before .before .reader-of .ensures))
+returns c = c .after .ensures ∙ ap (readerShown (c .before .before .before .before .args .reader)) (c .before .set-buffer-limits-by-partition .ensures ∙ ap (λ (r : ExternalsReader). setLimitsCall r (c .before .before .before .before .args .limits .«by_partitions»)) (c .before .before .reader-of .ensures))
 
 pub limits-set-spec : {M : Type 1} → statement M
 limits-set-spec =

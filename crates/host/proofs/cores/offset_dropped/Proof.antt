@@ -17,7 +17,7 @@ after-requires c κs = search needs
 returns : tie.Need-returns
 returns c =
     let c-args = c .before .before .before .args in
-    c .after .ensures ∙ ap readerShown (c .before .drop-processing-offset .ensures ∙ ap (dropCall (c-args .par-id) (c-args .drop-skip-offset)) (c .before .before .reader-of .ensures))
+    c .after .ensures ∙ ap (readerShown (c-args .reader)) (c .before .drop-processing-offset .ensures ∙ ap (dropCall (c-args .par-id) (c-args .drop-skip-offset)) (c .before .before .reader-of .ensures))
 
 pub offset-dropped-spec : {M : Type 1} → statement M
 offset-dropped-spec =

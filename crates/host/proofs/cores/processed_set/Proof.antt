@@ -15,7 +15,9 @@ after-requires : tie.Need-after-requires
 after-requires c κs = search needs
 
 returns : tie.Need-returns
-returns c = c .after .ensures ∙ ap readerShown (c .before .set-processed-to-current-position .ensures ∙ ap (setProcessedCall (c .before .before .before .args .par-id)) (c .before .before .reader-of .ensures))
+returns c =
+    let c-args = c .before .before .before .args in
+    c .after .ensures ∙ ap (readerShown (c-args .reader)) (c .before .set-processed-to-current-position .ensures ∙ ap (setProcessedCall (c-args .par-id)) (c .before .before .reader-of .ensures))
 
 pub processed-set-spec : {M : Type 1} → statement M
 processed-set-spec =

@@ -15,7 +15,7 @@ after-requires : tie.Need-after-requires
 after-requires c κs = search needs
 
 returns : tie.Need-returns
-returns c = c .after .ensures ∙ ap readerShown (c .before .retain-only-last-range-state .ensures ∙ ap retainCall (c .before .before .reader-of .ensures))
+returns c = c .after .ensures ∙ ap (readerShown (c .before .before .before .args .reader)) (c .before .retain-only-last-range-state .ensures ∙ ap retainCall (c .before .before .reader-of .ensures))
 
 pub retained-spec : {M : Type 1} → statement M
 retained-spec =

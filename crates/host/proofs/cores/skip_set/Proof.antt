@@ -16,7 +16,9 @@ after-requires : tie.Need-after-requires
 after-requires c κs = search needs
 
 returns : tie.Need-returns
-returns c = c .after .ensures ∙ ap readerShown (c .before .set-skip-processed-offset-to-current .ensures ∙ ap (setSkipCall (c .before .before .before .args .par-id)) (c .before .before .reader-of .ensures))
+returns c =
+    let c-args = c .before .before .before .args in
+    c .after .ensures ∙ ap (readerShown (c-args .reader)) (c .before .set-skip-processed-offset-to-current .ensures ∙ ap (setSkipCall (c-args .par-id)) (c .before .before .reader-of .ensures))
 
 pub skip-set-spec : {M : Type 1} → statement M
 skip-set-spec =

@@ -17,7 +17,7 @@ after-requires c κs = search needs
 returns : tie.Need-returns
 returns c =
     let c-args = c .before .before .before .args in
-    c .after .ensures ∙ ap readerShown (c .before .messages-taken .ensures ∙ ap (takenCall (c-args .seqno) (c-args .par-id) (c-args .taken)) (c .before .before .reader-of .ensures))
+    c .after .ensures ∙ ap (readerShown (c-args .reader)) (c .before .messages-taken .ensures ∙ ap (takenCall (c-args .seqno) (c-args .par-id) (c-args .taken)) (c .before .before .reader-of .ensures))
 
 pub taken-spec : {M : Type 1} → statement M
 taken-spec = tie.close (tie.spec reader-of-requires messages-taken-requires after-requires returns)
