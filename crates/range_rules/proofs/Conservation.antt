@@ -35,7 +35,7 @@ use Rattle.range_rules.specs.declared.ExternalsRangeReaderState.{Externa
 use Rattle.range_rules.proofs.Counts.{zeros}
 use Rattle.range_rules.specs.Rules.{rangeAfter, sixSteps, entryOf, keyAt, raised, movedTo, lookKey, Outcome, silent, followed, nextKey, advanced, ends, stopped, judge, noProcessed, more, refusedWith, readOne, bufferOne, after, verdictOn, ourRead, messageRead, messagesRead, popped, offsetIn, looked, expiredOne, expiredOver, expired, isWhole, finished, unread, walked, anchorRead, nextRead, anchorsRead, entryLen}
 use Rattle.range_rules.proofs.Walks.{message-place}
-use Rattle.range_rules.proofs.Positions.{finished-place}
+use Rattle.range_rules.proofs.Positions.{finished-place, looked-key}
 
 -- ---- counting per partition
 -- ours of partition p among some messages
@@ -321,10 +321,6 @@ looked-counts x id w = refl
 looked-number : (x : Context) (id : ℕ) (w : Walk) → looked x id w .number ≡ w .number
 unfolding looked
 looked-number x id w = refl
-
-looked-key : (x : Context) (id : ℕ) (w : Walk) → looked x id w .place .key ≡ lookKey x id
-unfolding looked
-looked-key x id w = refl
 
 looked-place : (x : Context) (id : ℕ) (w : Walk) → (looked x id w .place .position ≡ w .place .position) × (looked x id w .place .to ≡ w .place .to)
 unfolding looked

@@ -51,7 +51,7 @@ looked-position : (x : Context) (id : ℕ) (w : Walk) → looked x id w .place .
 unfolding looked
 looked-position x id w = refl
 
-looked-key : (x : Context) (id : ℕ) (w : Walk) → looked x id w .place .key ≡ lookKey x id
+pub looked-key : (x : Context) (id : ℕ) (w : Walk) → looked x id w .place .key ≡ lookKey x id
 unfolding looked
 looked-key x id w = refl
 
