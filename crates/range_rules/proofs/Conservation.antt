@@ -644,3 +644,11 @@ module _ (x : Context) (routes : List ℕ) (sound : routesNumber routes ≡ 0) (
         passed = λ p. h .counts p ∙ omega (arith, zeros 8 p 0);
         buffered = h .buffered;
       }
+
+-- ---- the range that a read answers: what stays of it, and that its mark is the walk's
+module _ (range : ExternalsRangeReaderState) (r : RangeRead) where
+  pub a-read-keeps-seqno-from-and-chain-time : (rangeAfter range r .seqno ≡ range .seqno) × (rangeAfter range r .from ≡ range .from) × (rangeAfter range r .«chain_time» ≡ range .«chain_time»)
+  a-read-keeps-seqno-from-and-chain-time = (refl, refl, refl)
+
+  pub the-range-answered-is-fully-read-where-the-walk-ended-so : rangeAfter range r .«fully_read» ≡ r .«fully_read»
+  the-range-answered-is-fully-read-where-the-walk-ended-so = refl
