@@ -16,7 +16,7 @@ use Rattle.anchors_cache.specs.declared.Total.the-variants.{Messages, Un
 use Rattle.cache_rules.specs.Rules.{Row, soundRow, soundFrom, total, lastOf, aboveLast, sameBool, rightSize, room, pendingUpTo, ask, maxAnchors, maxAnchorMessages, maxMessages, maxHistory, areaBytes}
 use Rattle.anchors_cache.specs.Tables.{tablesBytes, anchors, anchorAt, anchorsOf}
 use Rattle.anchors_cache.specs.Windows.{usedBy, Sound, Room, anyPlaces}
-use Rattle.anchors_cache.specs.Calls.{sameWindow, soundTotal, soundAnchor, cachedAnchor, validCache, valid, refusal, refusalAt, refusalSeen, addNumber, onZero, placesIn}
+use Rattle.anchors_cache.specs.Calls.{sameWindow, soundTotal, soundAnchor, cachedAnchor, validCache, valid, refusal, refusalAt, refusalSeen, addNumber, addInfoNumber, onZero, placesIn}
 use Rattle.anchors_cache.proofs.Laws.{anchors-cons, anchors-none}
 
 -- ---- question 5 of the anchors, in one pass
@@ -104,8 +104,7 @@ parts places tables c e =
     }
 
 -- ---- the transaction's window, and what its rollback restores
--- ---- windows
-same-pending : (a b : Bool) → sameBool a b ≡ true → a ≡ b
+pub same-pending : (a b : Bool) → sameBool a b ≡ true → a ≡ b
 same-pending true b e = sym e
 same-pending false true e = e
 same-pending false false e = refl
@@ -219,6 +218,18 @@ module _ (n : ℕ) (tables : List ℕ) (t : AnchorsCacheTransaction) where
           pub add-zero : has ≡ true → t .active ≡ false → addNumber n tables t id ours k ≡ 0
           add-zero e f = add-asked ∙ (rw (sized, above, e) (ap (λ (b : Bool). ask 9 (not b) 0) f))
 
+  -- of an entry to the history alone
+  abbrev grows : Bool
+  grows = ltb (t .cache .«history_len») maxHistory
+
+  pub info-refused : (refusal n tables t ≡ 0 → ⊥) → addInfoNumber n tables t ≡ refusal n tables t
+  unfolding refusal addInfoNumber
+  info-refused p = two-refused (leb areaBytes n) (valid (placesIn n) tables t) _ p
+
+  pub info-asked : refusal n tables t ≡ 0 → addInfoNumber n tables t ≡ ask 8 grows (ask 9 (not (t .active)) 0)
+  unfolding refusal addInfoNumber
+  info-asked e = two-asked (leb areaBytes n) (valid (placesIn n) tables t) _ e
+
 -- where no area is lent
 pub seen-parts : (tables : List ℕ) (t : AnchorsCacheTransaction) → refusalSeen tables t ≡ 0 → Parts anyPlaces tables (t .cache)
 unfolding refusalSeen
@@ -290,6 +301,25 @@ add-asks area tables t id ours messages e =
       record { tall = p .tall; broad = b; in-anchors = p .in-anchors; in-history = p .in-history; in-area = omega (arith, mul-div-le n 33) },
       record { whole = s .1; few = s .0; entries = r .0; anchors = λ (o : 0 < ours). r .1 o .0; bytes = λ (o : 0 < ours). let f = r .1 o .1 in omega arith },
     )
+
+-- ---- and of an entry to the history alone
+two-more : (a b : Bool) → ask 8 a (ask 9 (not b) 0) ≡ 0 → (a ≡ true) × (b ≡ false)
+two-more false b e = absurd (omega arith)
+two-more true true e = absurd (omega arith)
+two-more true false e = (refl, refl)
+
+module _ (n : ℕ) (tables : List ℕ) (t : AnchorsCacheTransaction) (zeroed : addInfoNumber n tables t ≡ 0) where
+  pub info-refusal : refusal n tables t ≡ 0
+  info-refusal = go (refusal n tables t) refl
+    where
+      go : (m : ℕ) → refusal n tables t ≡ m → m ≡ 0
+      go zero e = refl
+      go (suc m) e = sym e ∙ (sym (info-refused n tables t (λ (f : refusal n tables t ≡ 0). omega arith)) ∙ zeroed)
+
+  pub info-yes : (t .cache .«history_len» < maxHistory) × (t .active ≡ false)
+  info-yes =
+      let p = two-more _ (t .active) (sym (info-asked n tables t info-refusal) ∙ zeroed) in
+      (ltb-true _ _ (p .0), p .1)
 
 -- ---- answers
 pub on-not : {A : Type 0} (k : ℕ) (a b : A) → (k ≡ 0 → ⊥) → onZero k a b ≡ b

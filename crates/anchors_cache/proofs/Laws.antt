@@ -18,9 +18,9 @@ use Rattle.rows.specs.declared.Appended.the-variants.{Behind, Moved}
 use Rattle.anchors_cache.specs.declared.AnchorsCache.{AnchorsCache}
 use Rattle.cache_rules.proofs.ByCall.{trim-snoc}
 use Rattle.cache_rules.proofs.Lists.{trim-prefix, stale-le, trim-le, history-snoc, history-le, history-prefix, last-snoc}
-use Rattle.cache_rules.specs.Rules.{rowOf, Row, dropStale, trimBack, trimHistory, lastOf, total, authorBytes}
+use Rattle.cache_rules.specs.Rules.{rowOf, Info, Row, dropStale, trimBack, trimHistory, lastOf, total, authorBytes}
 use Rattle.anchors_cache.specs.Tables.{withMessages, historyBytes, anchorRow, infoRow, anchorOf, infoOf, anchors, infos, anchorAt, infoAt}
-use Rattle.anchors_cache.specs.Windows.{rowTime, infoFor, poppedBy, poppedCache, poppedTimes, Lies}
+use Rattle.anchors_cache.specs.Windows.{rowTime, poppedBy, poppedCache, poppedTimes, Lies}
 use Rattle.anchors_cache.specs.Calls.{placedAt}
 
 -- ---- maps over rows
@@ -285,34 +285,35 @@ five-stores m l e p q r s t u v w x y a b c d f =
     let five = store m t y (sets (sets (sets (sets l p u) q v) r w) s x) (four .1) f in
     rw (one .0, two .0, three .0, four .0, five .0)
 
-module _ (a : Row) (full : length (a .author) ≡ authorBytes) where
-  pub length-info : length (infoRow (infoFor a)) ≡ 52
+num-fits : (at k v m : ℕ) → at + k ≤ m → at + length (le k v) ≤ m
+num-fits at k v m p = rw (length-le k v) p
+
+module _ (i : Info) (full : length (i .author) ≡ authorBytes) where
+  pub length-info : length (infoRow i) ≡ 52
   unfolding infoRow
   length-info = simp (length-append, length-le, full) refl
 
+  info-stores : (l : List ℕ) → length l ≡ 52
+      → sets (sets (sets (sets (sets l 0 (le 4 (i .id))) 4 (le 8 (i .time))) 12 (le 4 (i .all))) 16 (le 4 (i .ours))) 20 (i .author) ≡ infoRow i
+  unfolding infoRow
+  info-stores l e = sym (simp (sets-append, length-le) refl) ∙ sets-all l (infoRow i) (length-info ∙ sym e)
+
+  pub info-written : (l : List ℕ) → length l ≡ 52
+      → written 20 (i .author) (written 16 (le 4 (i .ours)) (written 12 (le 4 (i .all)) (written 4 (le 8 (i .time)) (written 0 (le 4 (i .id)) l)))) ≡ infoRow i
+  info-written l e =
+      five-stores 52 l e 0 4 12 16 20 (le 4 (i .id)) (le 8 (i .time)) (le 4 (i .all)) (le 4 (i .ours)) (i .author)
+      (num-fits 0 4 (i .id) 52 (omega arith)) (num-fits 4 8 (i .time) 52 (omega arith)) (num-fits 12 4 (i .all) 52 (omega arith)) (num-fits 16 4 (i .ours) 52 (omega arith)) (omega arith)
+      ∙ info-stores l e
+
+module _ (a : Row) (full : length (a .author) ≡ authorBytes) where
   pub length-anchor : length (anchorRow a) ≡ 50
   unfolding anchorRow
   length-anchor = simp (length-append, length-le, full) refl
-
-  info-stores : (l : List ℕ) → length l ≡ 52
-      → sets (sets (sets (sets (sets l 0 (le 4 (a .id))) 4 (le 8 (a .time))) 12 (le 4 (a .count))) 16 (le 4 (a .ours))) 20 (a .author) ≡ infoRow (infoFor a)
-  unfolding infoRow
-  info-stores l e = sym (simp (sets-append, length-le) refl) ∙ sets-all l (infoRow (infoFor a)) (length-info ∙ sym e)
 
   anchor-stores : (l : List ℕ) → length l ≡ 50
       → sets (sets (sets (sets (sets l 0 (le 4 (a .id))) 4 (le 8 (a .time))) 12 (a .author)) 44 (le 4 (a .ours))) 48 (le 2 (a .count)) ≡ anchorRow a
   unfolding anchorRow le
   anchor-stores l e = sym (simp (sets-append, length-le, full) refl) ∙ sets-all l (anchorRow a) (length-anchor ∙ sym e)
-
-  num-fits : (at k v m : ℕ) → at + k ≤ m → at + length (le k v) ≤ m
-  num-fits at k v m p = rw (length-le k v) p
-
-  pub info-written : (l : List ℕ) → length l ≡ 52
-      → written 20 (a .author) (written 16 (le 4 (a .ours)) (written 12 (le 4 (a .count)) (written 4 (le 8 (a .time)) (written 0 (le 4 (a .id)) l)))) ≡ infoRow (infoFor a)
-  info-written l e =
-      five-stores 52 l e 0 4 12 16 20 (le 4 (a .id)) (le 8 (a .time)) (le 4 (a .count)) (le 4 (a .ours)) (a .author)
-      (num-fits 0 4 (a .id) 52 (omega arith)) (num-fits 4 8 (a .time) 52 (omega arith)) (num-fits 12 4 (a .count) 52 (omega arith)) (num-fits 16 4 (a .ours) 52 (omega arith)) (omega arith)
-      ∙ info-stores l e
 
   pub anchor-written : (l : List ℕ) → length l ≡ 50
       → written 48 (le 2 (a .count)) (written 44 (le 4 (a .ours)) (written 12 (a .author) (written 4 (le 8 (a .time)) (written 0 (le 4 (a .id)) l)))) ≡ anchorRow a

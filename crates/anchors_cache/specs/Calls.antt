@@ -33,7 +33,7 @@ use Rattle.anchors_cache.specs.declared.FoundInfo.the-variants as info
 use Rattle.anchors_cache.specs.declared.FoundId.the-variants as id
 use Rattle.cache_rules.specs.Rules.{Info, Row, lastOf, infoAtCt, soundRow, soundFrom, total, sameBool, pendingUpTo, rightSize, aboveLast, room, ask, maxAnchors, maxAnchorMessages, maxHistory, maxMessages, authorBytes, areaBytes}
 use Rattle.anchors_cache.specs.Tables.{tablesBytes, anchorsOf, historyOf, anchorAt, infoAt}
-use Rattle.anchors_cache.specs.Windows.{poppedCache, poppedTimes, trimmedCache, noCache, addedCache, usedBy, anyPlaces}
+use Rattle.anchors_cache.specs.Windows.{poppedCache, poppedTimes, trimmedCache, noCache, inHistory, addedCache, usedBy, anyPlaces}
 
 -- ---- questions 1, 5 and 9
 -- one anchor as question 5 wants it, on the struct that the code holds
@@ -121,6 +121,10 @@ anchorAuthor (a ∷ l) = a .author
 abbrev pub anchorInfo : Info → AnchorInfo
 anchorInfo i = record { id = i .id; ct = timeOf (i .time); «all_exts_count» = i .all; «our_exts_count» = i .ours }
 
+-- an entry with its author, which stands beside it
+abbrev pub infoWith : AnchorInfo → List ℕ → Info
+infoWith e author = record { id = e .id; time = e .ct .0; all = e .«all_exts_count»; ours = e .«our_exts_count»; author = author }
+
 abbrev pub noInfo : Info
 noInfo = record { id = 0; time = 0; all = 0; ours = 0; author = [] }
 
@@ -169,6 +173,14 @@ addNumber n tables t id ours k =
 
 unfoldable pub addCall : ℕ → Row → ℕ → ℕ → List ℕ → AnchorsCacheTransaction → Done
 addCall number a n k tables t = answer number t (withCache t (addedCache a n k tables (t .cache)))
+
+-- ---- an entry to the history alone: questions 1, 5, 8 of the history, and 9
+unfoldable pub addInfoNumber : ℕ → List ℕ → AnchorsCacheTransaction → ℕ
+addInfoNumber n tables t =
+    ask 1 (leb areaBytes n) (ask 5 (valid (placesIn n) tables t) (ask 8 (ltb (t .cache .«history_len») maxHistory) (ask 9 (not (t .active)) 0)))
+
+unfoldable pub addInfoCall : ℕ → List ℕ → AnchorsCacheTransaction → Done
+addInfoCall n tables t = answer (addInfoNumber n tables t) t (withCache t (inHistory (t .cache)))
 
 -- ---- pop and trim, with a transaction or without
 unfoldable pub popAnswer : ℕ → List ℕ → AnchorsCacheTransaction → Popped

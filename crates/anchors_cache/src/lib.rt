@@ -6,9 +6,9 @@ ghost use Prim.Native.Nat.{_+_, _*_, _<_, _≤_};
 ghost use lib.ListN.{length};
 ghost use Rattle.rows.specs.Rows.{pick};
 ghost use Rattle.cache_rules.specs.Rules.{maxHistory, maxAnchors, lastOf};
-ghost use Rattle.anchors_cache.specs.Tables.{tablesBytes, anchors, infos};
-ghost use Rattle.anchors_cache.specs.Windows.{addedTables, addedArea, anyPlaces};
-ghost use Rattle.anchors_cache.specs.Calls.{sameWindow, onZero, rowFor, addNumber, addCall, refusal, rowAt, infoRowAt, popCall, popsCall, trimCall, clearCall, openCall, commitCall, rollbackCall, closeCall, lastInfoCall, infoAtCtCall, lastIdCall, getCall, pendingCall, pendingInRangeCall, shownInfo, shownAnchor, closedTransaction};
+ghost use Rattle.anchors_cache.specs.Tables.{tablesBytes, infoRow, anchors, infos};
+ghost use Rattle.anchors_cache.specs.Windows.{historyAdded, addedTables, addedArea, anyPlaces};
+ghost use Rattle.anchors_cache.specs.Calls.{sameWindow, onZero, rowFor, infoWith, addInfoNumber, addInfoCall, addNumber, addCall, refusal, rowAt, infoRowAt, popCall, popsCall, trimCall, clearCall, openCall, commitCall, rollbackCall, closeCall, lastInfoCall, infoAtCtCall, lastIdCall, getCall, pendingCall, pendingInRangeCall, shownInfo, shownAnchor, closedTransaction};
 use cache_rules::AUTHOR_BYTES;
 use cache_rules::MAX_ANCHORS;
 use cache_rules::MAX_HISTORY;
@@ -215,6 +215,35 @@ pub fn history_row(tables: &[u8], i: usize) -> AnchorInfo
         ct: ChainTime(0),
         all_exts_count: 0,
         our_exts_count: 0,
+    }
+}
+
+// An entry to the history alone; its author stands beside it.
+pub fn add_imported_anchor_info(
+    tables: &mut [u8],
+    area: &[u8],
+    t: AnchorsCacheTransaction,
+    anchor_info: AnchorInfo,
+    author: [u8; AUTHOR_BYTES],
+) -> Done
+    ensures { λ r. ⌜ (r ≡ addInfoCall (length (now (area .entry))) (now (tables .entry)) t)
+        × (now (tables .exit) ≡ onZero (addInfoNumber (length (now (area .entry))) (now (tables .entry)) t) (historyAdded (infoRow (infoWith «anchor_info» author)) (t .cache) (now (tables .entry))) (now (tables .entry))) ⌝ }
+{
+    let r = questions::add_info_number(&*tables, area.len(), t);
+    if r != 0 {
+        return Done {
+            number: r,
+            state: t,
+        };
+    }
+    let row = tables::info_row(anchor_info, author);
+    let cache = t.cache;
+    let c = windows::in_history(cache, tables, &row);
+    let mut s = t;
+    s.cache = c;
+    Done {
+        number: 0,
+        state: s,
     }
 }
 

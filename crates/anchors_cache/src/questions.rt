@@ -4,7 +4,7 @@ ghost use Prim.Native.Nat.{_+_, _*_, _/_, _<_, _≤_};
 ghost use lib.ListN.{length};
 ghost use Rattle.cache_rules.specs.Rules.{maxAnchors, sameBool, rightSize, aboveLast, lastOf, room};
 ghost use Rattle.anchors_cache.specs.Tables.{tablesBytes, anchors};
-ghost use Rattle.anchors_cache.specs.Calls.{soundAnchor, soundTotal, validCache, valid, refusal, refusalAt, refusalSeen, addNumber};
+ghost use Rattle.anchors_cache.specs.Calls.{soundAnchor, soundTotal, validCache, valid, refusal, refusalAt, refusalSeen, addNumber, addInfoNumber};
 use crate::AnchorsCache;
 use crate::AnchorsCacheTransaction;
 use crate::CachedAnchor;
@@ -214,6 +214,24 @@ pub(crate) fn add_number(
     }
     let used = tables::total_count(tables, first, len);
     if !has_room(len, used, c.history_len, ours, k / 33) {
+        return 8;
+    }
+    if t.active {
+        return 9;
+    }
+    0
+}
+
+// Questions 1, 5, 8 of the history, and 9.
+pub(crate) fn add_info_number(tables: &[u8], n: usize, t: AnchorsCacheTransaction) -> u8
+    ensures { λ r. ⌜ r ≡ addInfoNumber n (now (tables .entry)) t ⌝ }
+{
+    let r = refusal_of(tables, n, t);
+    if r != 0 {
+        return r;
+    }
+    let c = t.cache;
+    if MAX_HISTORY <= c.history_len {
         return 8;
     }
     if t.active {

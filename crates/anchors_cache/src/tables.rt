@@ -7,8 +7,8 @@ ghost use lib.ListN.{length};
 ghost use Rattle.rows.specs.Rows.{part};
 ghost use Rattle.cache_rules.specs.Rules.{maxAnchorMessages, maxHistory, maxAnchors, dropStale, trimBack, trimHistory, total, authorBytes};
 ghost use Rattle.anchors_cache.specs.Tables.{tablesBytes, anchorRow, infoRow, anchors, infos, anchorAt, infoAt};
-ghost use Rattle.anchors_cache.specs.Windows.{rowTime, infoFor};
-ghost use Rattle.anchors_cache.specs.Calls.{cachedAnchor, anchorInfo, rowFor};
+ghost use Rattle.anchors_cache.specs.Windows.{rowTime};
+ghost use Rattle.anchors_cache.specs.Calls.{cachedAnchor, anchorInfo, infoWith, rowFor};
 use crate::AnchorInfo;
 use crate::CachedAnchor;
 use crate::HISTORY_BYTES;
@@ -149,17 +149,16 @@ pub(crate) fn total_count(tables: &[u8], first: usize, len: usize) -> usize
     sum
 }
 
-pub(crate) fn info_row(a: MempoolAnchor, ours: u32, k: usize) -> [u8; 52]
-    requires { ⌜ k ≤ 33 * maxAnchorMessages ⌝ }
-    ensures { λ r. ⌜ r ≡ infoRow (infoFor (rowFor a ours k)) ⌝ }
+// A history entry's row; the author stands beside the entry.
+pub(crate) fn info_row(e: AnchorInfo, author: [u8; AUTHOR_BYTES]) -> [u8; 52]
+    ensures { λ r. ⌜ r ≡ infoRow (infoWith e author) ⌝ }
 {
-    let time = a.chain_time;
-    let author = a.author;
+    let time = e.ct;
     let mut row = [0u8; 52];
-    rows::put_le(&mut row, 0, a.id as u64, 4);
+    rows::put_le(&mut row, 0, e.id as u64, 4);
     rows::put_le(&mut row, 4, time.0, 8);
-    rows::put_le(&mut row, 12, (k / 33) as u64, 4);
-    rows::put_le(&mut row, 16, ours as u64, 4);
+    rows::put_le(&mut row, 12, e.all_exts_count as u64, 4);
+    rows::put_le(&mut row, 16, e.our_exts_count as u64, 4);
     rows::copy_in(&mut row, 20, &author);
     row
 }

@@ -4,9 +4,10 @@ ghost use mathlib.Core.Path.{_≡_};
 ghost use Prim.Native.Nat.{_+_, _*_, _<_, _≤_};
 ghost use lib.ListN.{length};
 ghost use Rattle.anchors_cache.specs.Tables.{tablesBytes};
-ghost use Rattle.cache_rules.specs.Rules.{maxAnchors, maxHistory, areaBytes};
-ghost use Rattle.anchors_cache.specs.Windows.{poppedCache, poppedTimes, trimmedCache, inHistory, historyAdded, inCache, anchorAdded, messagesAdded, addedCache, addedTables, addedArea, Sound, Room, Lies, anyPlaces};
-ghost use Rattle.anchors_cache.specs.Calls.{rowFor, placedAt};
+ghost use Rattle.cache_rules.specs.Rules.{maxAnchors, maxAnchorMessages, maxHistory, areaBytes};
+ghost use Rattle.anchors_cache.specs.Windows.{infoFor, poppedCache, poppedTimes, trimmedCache, inHistory, historyAdded, inCache, anchorAdded, messagesAdded, addedCache, addedTables, addedArea, Sound, Room, Lies, anyPlaces};
+ghost use Rattle.anchors_cache.specs.Calls.{anchorInfo, rowFor, placedAt};
+use crate::AnchorInfo;
 use crate::AnchorsCache;
 use crate::MempoolAnchor;
 use crate::tables;
@@ -82,7 +83,7 @@ fn placed(appended: Appended, first: usize) -> usize
 }
 
 // The window and the tables with one history entry more.
-fn in_history(c: AnchorsCache, tables: &mut [u8], row: &[u8]) -> AnchorsCache
+pub(crate) fn in_history(c: AnchorsCache, tables: &mut [u8], row: &[u8]) -> AnchorsCache
     requires { ⌜ (tablesBytes ≤ length (now tables)) × (length (now row) ≡ 52) × (c .«history_first» + c .«history_len» ≤ maxHistory) × (c .«history_len» < maxHistory) ⌝ }
     ensures { λ r. ⌜ (r ≡ inHistory c) × (now (tables .exit) ≡ historyAdded (now (row .entry)) c (now (tables .entry))) ⌝ }
 {
@@ -128,6 +129,20 @@ fn in_cache(
     d
 }
 
+// An anchor's history entry, of k bytes of messages.
+fn from_anchor(anchor: MempoolAnchor, ours: u32, k: usize) -> AnchorInfo
+    requires { ⌜ k ≤ 33 * maxAnchorMessages ⌝ }
+    ensures { λ r. ⌜ r ≡ anchorInfo (infoFor (rowFor anchor ours k)) ⌝ }
+{
+    let time = anchor.chain_time;
+    AnchorInfo {
+        id: anchor.id,
+        ct: time,
+        all_exts_count: (k / 33) as u32,
+        our_exts_count: ours,
+    }
+}
+
 // An anchor to the history always, to the cache where ours is above 0.
 pub(crate) fn added_cache(
     c: AnchorsCache,
@@ -145,7 +160,9 @@ pub(crate) fn added_cache(
 {
     let used = tables::total_count(&*tables, c.first, c.len);
     let k = messages.len();
-    let info = tables::info_row(anchor, ours, k);
+    let e = from_anchor(anchor, ours, k);
+    let author = anchor.author;
+    let info = tables::info_row(e, author);
     let d = in_history(c, &mut *tables, &info);
     if ours == 0 {
         return d;

@@ -4,19 +4,20 @@ use mathlib.Core.Path.{_≡_, refl, sym, ap, _∙_}
 use mathlib.Core.Bool.{Bool, true, false, not}
 use mathlib.Core.List.{List, [], _∷_, map}
 use native.Mathlib.Omega.{arith}
+use lib.Dec.{ltb}
 use lib.ListN.{length, drop}
 use borrow.Author.Tests.{le-leb, lt-leb}
 use Rattle.rows.specs.Rows.{pick}
 use Rattle.anchors_cache.specs.declared.AnchorsCacheTransaction.{AnchorsCacheTransaction}
 use Rattle.anchors_cache.specs.declared.MempoolAnchor.{MempoolAnchor}
-use Rattle.cache_rules.specs.Rules.{Cache, rowOf, popFront, trim, total, lastOf, rightSize, aboveLast, room, sameBool, ask, areaBytes}
+use Rattle.cache_rules.specs.Rules.{Cache, rowOf, popFront, trim, total, lastOf, rightSize, aboveLast, room, sameBool, ask, maxHistory, areaBytes}
 use Rattle.anchors_cache.specs.Tables.{anchorsOf, view}
 use Rattle.anchors_cache.specs.Windows.{poppedTimes, usedBy}
-use Rattle.anchors_cache.specs.Calls.{placesIn, refusal, refusalAt, onZero, answer, withCache, addNumber, addCall, popAnswer, popCall, popsCall, trimAnswer, trimCall, clearCall, openCall, commitCall, rollbackCall, closeCall}
+use Rattle.anchors_cache.specs.Calls.{placesIn, refusal, refusalAt, onZero, answer, withCache, addNumber, addCall, addInfoNumber, addInfoCall, popAnswer, popCall, popsCall, trimAnswer, trimCall, clearCall, openCall, commitCall, rollbackCall, closeCall}
 use Rattle.anchors_cache.proofs.Laws.{anchors-length, infos-length, rows-of-messages}
-use Rattle.anchors_cache.proofs.Asked.{Parts, valid-parts, refusal-zero, at-asked, at-refused, add-asked}
-use Rattle.cache_laws.specs.Book.{Book, begin, finish, holds, bookRefusal, bookAdd, popTimes, Area, same, short, lend, Call, Reading, reading, enter, entered, bookNumbers, performed, numbers}
-use Rattle.cache_laws.specs.Entries.{popping, poppingMany, trimming, committing, rollingBack, closing, opening, clearing, adding}
+use Rattle.anchors_cache.proofs.Asked.{Parts, valid-parts, refusal-zero, at-asked, at-refused, add-asked, info-asked}
+use Rattle.cache_laws.specs.Book.{Book, begin, finish, holds, bookRefusal, bookAdd, bookAddInfo, popTimes, Area, same, short, lend, Call, Reading, reading, enter, entered, bookNumbers, performed, numbers}
+use Rattle.cache_laws.specs.Entries.{popping, poppingMany, trimming, committing, rollingBack, closing, opening, clearing, adding, addingInfo}
 use Rattle.cache_laws.proofs.Views.{length-messages, view-popped, view-popped-times, view-trimmed}
 use Rattle.cache_laws.proofs.Kept.{whole, popped-parts, times-parts, trimmed-parts, valid-of, holds-view}
 
@@ -48,6 +49,10 @@ module _ (n : ℕ) (few : n < areaBytes) where
     unfolding addNumber
     short-add id ours k = rw (lt-leb areaBytes n few)
 
+    short-info : addInfoNumber n tables t ≡ 1
+    unfolding addInfoNumber
+    short-info = rw (lt-leb areaBytes n few)
+
 -- ---- the area of the run
 -- questions 6 to 8 with the transaction open never give 0
 add-never : {A : Type 0} (id ours k : ℕ) (v : Cache) (x y : A) → onZero (bookAdd id ours k v 9) x y ≡ y
@@ -59,6 +64,14 @@ add-never id ours k v x y = go (rightSize ours k) (aboveLast id (lastOf (map row
     go true false c = refl
     go true true false = refl
     go true true true = refl
+
+info-never : {A : Type 0} (v : Cache) (x y : A) → onZero (bookAddInfo v 9) x y ≡ y
+unfolding bookAddInfo
+info-never v x y = go (ltb (length (v .history)) maxHistory)
+  where
+    go : (a : Bool) → onZero (ask 8 a 9) x y ≡ y
+    go false = refl
+    go true = refl
 
 module _ (tables area : List ℕ) (big : areaBytes ≤ length area) (t : AnchorsCacheTransaction) (b : Book) (s : Stands tables area t b) where
   accepted : refusal (length area) tables t ≡ 0
@@ -97,6 +110,10 @@ module _ (tables area : List ℕ) (big : areaBytes ≤ length area) (t : Anchors
     where
       tail : Bool → ℕ
       tail x = ask 6 (rightSize ours k) (ask 7 (aboveLast id (lastOf (anchorsOf tables (t .cache)))) (ask 8 (room (t .cache .len) (usedBy tables (t .cache)) (t .cache .«history_len») ours (k / 33)) (ask 9 x 0)))
+
+  info-number : addInfoNumber (length area) tables t ≡ bookAddInfo (b .present) 9
+  unfolding bookAddInfo
+  info-number = info-asked (length area) tables t accepted ∙ (ap (λ (x : Bool). ask 8 (ltb (t .cache .«history_len») maxHistory) (ask 9 (not x) 0)) (s .is-open) ∙ rw history-same)
 
 on-self : {A : Type 0} (k : ℕ) (x : A) → onZero k x x ≡ x
 on-self zero x = refl
@@ -224,6 +241,12 @@ module _ (tables area : List ℕ) (big : areaBytes ≤ length area) (t : Anchors
       let x = bookAdd (m .id) ours k (b .present) 9 in
       rw (add-number tables area big t b s (m .id) ours k, book-accepts tables area big t b s x) (refl, rw (add-never (m .id) ours k (b .present) _ t, on-self x b) s)
 
+  info-next : Next addingInfo
+  unfolding enter addInfoCall answer
+  info-next =
+      let x = bookAddInfo (b .present) 9 in
+      rw (info-number tables area big t b s, book-accepts tables area big t b s x) (refl, rw (info-never (b .present) _ t, on-self x b) s)
+
   open-next : Next opening
   unfolding enter openCall answer
   open-next = rw (accepted-at tables area big t b s false, book-accepts tables area big t b s 9) (refl, s)
@@ -272,6 +295,10 @@ module _ (tables bytes : List ℕ) (few : length bytes < areaBytes) (t : Anchors
   unfolding addCall answer
   add-1 m ours messages = rw (short-add (length bytes) few tables t (m .id) ours (length messages))
 
+  info-1 : One addingInfo
+  unfolding addInfoCall answer
+  info-1 = rw (short-info (length bytes) few tables t)
+
 pub pop-simulates : Simulates popping
 pop-simulates = record { follows = pop-next; refuses = λ tables bytes few t b. (pop-1 tables bytes few t, short-book (length bytes) few b 0) }
 
@@ -296,6 +323,9 @@ add-simulates m ours messages =
       follows = λ tables area big t b s. add-next tables area big t b s m ours messages;
       refuses = λ tables bytes few t b. (add-1 tables bytes few t m ours messages, short-book (length bytes) few b (bookAdd (m .id) ours (length messages) (b .present) 9));
     }
+
+pub info-simulates : Simulates addingInfo
+info-simulates = record { follows = info-next; refuses = λ tables bytes few t b. (info-1 tables bytes few t, short-book (length bytes) few b (bookAddInfo (b .present) 9)) }
 
 pub open-simulates : Simulates opening
 open-simulates = record { follows = open-next; refuses = λ tables bytes few t b. (open-1 tables bytes few t, short-book (length bytes) few b 9) }
@@ -366,9 +396,13 @@ opened-stands tables area t e =
     let z = open-asked (length area) tables t e in
     (refusal-zero (length area) tables t z .0, opened tables area t z e)
 
--- The tables are one list for the whole run: an add in it is refused, and its contract writes tables and area only on
--- number 0.
+-- The tables are one list for the whole run: an add in it, of an anchor or of an entry, is refused, and its contract
+-- writes tables and area only on number 0.
 pub an-add-in-the-list-writes-nothing : {A : Type 0} (tables area : List ℕ) → areaBytes ≤ length area → (t : AnchorsCacheTransaction) (b : Book) → Stands tables area t b
     → (id ours k : ℕ) (x y : A) → onZero (addNumber (length area) tables t id ours k) x y ≡ y
 an-add-in-the-list-writes-nothing tables area big t b s id ours k x y =
     ap (λ (n : ℕ). onZero n x y) (add-number tables area big t b s id ours k) ∙ add-never id ours k (b .present) x y
+
+pub an-entry-in-the-list-writes-nothing : {A : Type 0} (tables area : List ℕ) → areaBytes ≤ length area → (t : AnchorsCacheTransaction) (b : Book) → Stands tables area t b
+    → (x y : A) → onZero (addInfoNumber (length area) tables t) x y ≡ y
+an-entry-in-the-list-writes-nothing tables area big t b s x y = ap (λ (n : ℕ). onZero n x y) (info-number tables area big t b s) ∙ info-never (b .present) x y

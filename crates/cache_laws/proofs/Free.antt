@@ -9,15 +9,15 @@ use Rattle.ext_types.specs.declared.ExternalKey.{ExternalKey}
 use Rattle.anchors_cache.specs.declared.AnchorsCache.{AnchorsCache}
 use Rattle.anchors_cache.specs.declared.AnchorsCacheTransaction.{AnchorsCacheTransaction}
 use Rattle.anchors_cache.specs.declared.MempoolAnchor.{MempoolAnchor}
-use Rattle.cache_rules.specs.Rules.{Anchor, Info, Cache, Row, rowOf, withRow, popFront, trim, trimHistory, addAnchor}
-use Rattle.anchors_cache.specs.Tables.{historyBytes, withMessages, anchorsOf, historyOf, view}
-use Rattle.anchors_cache.specs.Windows.{usedBy, poppedBy, poppedCache, poppedTimes, trimmedCache, addedCache, addedTables, addedArea, anyPlaces}
-use Rattle.anchors_cache.specs.Calls.{validCache, valid, refusal, refusalAt, refusalSeen, rowFor, addNumber, addCall, popAnswer, popCall, popsCall, trimAnswer, trimCall, clearCall, openCall, commitCall, rollbackCall, closeCall, lastInfoCall, infoAtCtCall, lastIdCall, getCall, pendingCall, pendingInRangeCall}
+use Rattle.cache_rules.specs.Rules.{Anchor, Info, Cache, Row, rowOf, withRow, popFront, trim, trimHistory, addAnchor, addInfo}
+use Rattle.anchors_cache.specs.Tables.{historyBytes, infoRow, withMessages, anchorsOf, historyOf, view}
+use Rattle.anchors_cache.specs.Windows.{usedBy, poppedBy, poppedCache, poppedTimes, trimmedCache, inHistory, historyAdded, addedCache, addedTables, addedArea, anyPlaces}
+use Rattle.anchors_cache.specs.Calls.{validCache, valid, refusal, refusalAt, refusalSeen, rowFor, addNumber, addCall, addInfoNumber, addInfoCall, popAnswer, popCall, popsCall, trimAnswer, trimCall, clearCall, openCall, commitCall, rollbackCall, closeCall, lastInfoCall, infoAtCtCall, lastIdCall, getCall, pendingCall, pendingInRangeCall}
 use Rattle.anchors_cache.proofs.Laws.{kept-history, rows-of-messages}
-use Rattle.anchors_cache.proofs.Asked.{add-asks}
+use Rattle.anchors_cache.proofs.Asked.{add-asks, info-yes}
 use Rattle.cache_laws.specs.Book.{popTimes}
-use Rattle.cache_laws.proofs.Views.{anchors-of, infos-of, messages-part, view-popped, view-popped-times, view-trimmed, view-added}
-use Rattle.cache_laws.proofs.Kept.{Wide}
+use Rattle.cache_laws.proofs.Views.{anchors-of, infos-of, messages-part, view-popped, view-popped-times, view-trimmed, view-added, Fits, view-info-added}
+use Rattle.cache_laws.proofs.Kept.{Wide, info-asks}
 
 -- ---- which bytes are not free
 -- Two tables and two areas have the bytes of a window in common: its history's rows, its anchors' rows, and the
@@ -124,6 +124,8 @@ pub record Same (n : ℕ) (tables tables′ : List ℕ) (t : AnchorsCacheTransac
   pub pending-in-range : (upTo : ExternalKey) → pendingInRangeCall upTo tables t ≡ pendingInRangeCall upTo tables′ t
   pub add-number : (id ours k : ℕ) → addNumber n tables t id ours k ≡ addNumber n tables′ t id ours k
   pub add : (number : ℕ) (a : Row) (k : ℕ) → addCall number a n k tables t ≡ addCall number a n k tables′ t
+  pub add-info-number : addInfoNumber n tables t ≡ addInfoNumber n tables′ t
+  pub add-info : addInfoCall n tables t ≡ addInfoCall n tables′ t
 
 -- and leaves windows that stand for the same caches
 pub record SameViews (tables area tables′ area′ : List ℕ) (t : AnchorsCacheTransaction) : Type 0 where
@@ -134,6 +136,9 @@ pub record SameViews (tables area tables′ area′ : List ℕ) (t : AnchorsCach
       let k = length messages in
       view (addedTables a (t .cache) tables) (addedArea a messages tables (t .cache) area) (addedCache a (length area) k tables (t .cache))
       ≡ view (addedTables a (t .cache) tables′) (addedArea a messages tables′ (t .cache) area′) (addedCache a (length area′) k tables′ (t .cache))
+
+  pub add-info : (i : Info) → Fits i → addInfoNumber (length area) tables t ≡ 0
+      → view (historyAdded (infoRow i) (t .cache) tables) area (inHistory (t .cache)) ≡ view (historyAdded (infoRow i) (t .cache) tables′) area′ (inHistory (t .cache))
 
 module _ (tables area tables′ area′ : List ℕ) (t : AnchorsCacheTransaction) (g : Agree tables area tables′ area′ t) where
   abbrev c : AnchorsCache
@@ -159,8 +164,12 @@ module _ (tables area tables′ area′ : List ℕ) (t : AnchorsCacheTransaction
   unfolding refusalSeen
   seen-same = rw (valid-both anyPlaces)
 
+  info-number-same : (n : ℕ) → addInfoNumber n tables t ≡ addInfoNumber n tables′ t
+  unfolding addInfoNumber
+  info-number-same n = rw (valid-both (n / 33))
+
   pub free-bytes : (n : ℕ) → Same n tables tables′ t
-  unfolding popCall popAnswer popsCall trimCall trimAnswer clearCall openCall commitCall rollbackCall closeCall lastInfoCall infoAtCtCall lastIdCall getCall pendingCall pendingInRangeCall addNumber addCall addedCache
+  unfolding popCall popAnswer popsCall trimCall trimAnswer clearCall openCall commitCall rollbackCall closeCall lastInfoCall infoAtCtCall lastIdCall getCall pendingCall pendingInRangeCall addNumber addCall addInfoCall addedCache
   free-bytes n =
       let r = rows-same tables area tables′ area′ (g .tall) c (g .now) in
       let h = history-same tables area tables′ area′ (g .tall) c (g .now) in
@@ -182,6 +191,8 @@ module _ (tables area tables′ area′ : List ℕ) (t : AnchorsCacheTransaction
         pending-in-range = λ upTo. rw (seen-same, r);
         add-number = λ id ours k. rw (valid-both (n / 33), r);
         add = λ number a k. rw r;
+        add-info-number = info-number-same n;
+        add-info = rw (info-number-same n);
       }
 
   pub free-bytes-in-views : SameViews tables area tables′ area′ t
@@ -199,4 +210,8 @@ module _ (tables area tables′ area′ : List ℕ) (t : AnchorsCacheTransaction
             view-added tables area c (q .0) a messages (w .author) refl (q .1) (w .id) (w .time) (w .ours-fit)
             ∙ (ap (addAnchor (withRow a (rows 33 (a .count) messages))) (g .now)
             ∙ sym (view-added tables′ area′ c (q′ .0) a messages (w .author) refl (q′ .1) (w .id) (w .time) (w .ours-fit)));
+        add-info = λ i fits e.
+            let f′ : addInfoNumber (length area′) tables′ t ≡ 0 = rw (← g .broad) (sym (info-number-same (length area)) ∙ e) in
+            view-info-added tables area c (info-asks area tables t e) i fits (info-yes (length area) tables t e .0)
+            ∙ (ap (addInfo i) (g .now) ∙ sym (view-info-added tables′ area′ c (info-asks area′ tables′ t f′) i fits (info-yes (length area′) tables′ t f′ .0)));
       }

@@ -4,7 +4,7 @@ use mathlib.Core.Path.{_≡_, refl, sym, ap, subst, _∙_}
 use mathlib.Core.Bool.{Bool, true, false, _&&_}
 use mathlib.Core.List.{List, [], _∷_, _++_}
 use mathlib.Core.Logic.{⊎-elim}
-use native.Mathlib.Nat.{eq-zero-or-pos}
+use native.Mathlib.Nat.{eq-zero-or-pos, mul-div-le}
 use native.Mathlib.Omega.{arith}
 use lib.Dec.{ltb, leb}
 use lib.ListN.{length, take, drop}
@@ -14,14 +14,14 @@ use Rattle.rows.proofs.Laws.{and-true, appended-length}
 use Rattle.anchors_cache.specs.declared.AnchorsCache.{AnchorsCache}
 use Rattle.anchors_cache.specs.declared.AnchorsCacheTransaction.{AnchorsCacheTransaction}
 use Rattle.anchors_cache.specs.declared.MempoolAnchor.{MempoolAnchor}
-use Rattle.cache_rules.specs.Rules.{Row, soundRow, soundFrom, soundCache, total, sameBool, lastOf, aboveLast, ask, maxAnchors, maxAnchorMessages, maxMessages, maxHistory, authorBytes, areaBytes}
+use Rattle.cache_rules.specs.Rules.{Info, Row, soundRow, soundFrom, soundCache, total, sameBool, lastOf, aboveLast, ask, maxAnchors, maxAnchorMessages, maxMessages, maxHistory, authorBytes, areaBytes}
 use Rattle.anchors_cache.specs.Tables.{anchorRow, infoRow, anchors, anchorAt, anchorsOf, historyOf, view, historyBytes, anchorBytes, tablesBytes}
 use Rattle.anchors_cache.specs.Windows.{keptLen, poppedCache, poppedTimes, trimmedCache, noCache, inHistory, historyAdded, inCache, anchorAdded, infoFor, usedBy, addedCache, addedTables, Sound, Room}
-use Rattle.anchors_cache.specs.Calls.{placesIn, validCache, valid, refusal, refusalAt, answer, onZero, withCache, rowFor, addNumber, popAnswer, popCall, popsCall, trimAnswer, trimCall, clearCall, openCall, commitCall, rollbackCall, closeCall}
-use Rattle.anchors_cache.proofs.Laws.{anchors-cons, anchors-take, anchors-length, infos-length, total-more, popped-empty, fresh-le, kept-le, history-kept-le, length-info, length-anchor, rows-of-messages}
-use Rattle.anchors_cache.proofs.Asked.{Parts, parts, valid-parts, at-asked, refusal-zero, refusal-parts, add-refusal, add-yes, add-asks, size-of}
+use Rattle.anchors_cache.specs.Calls.{placesIn, validCache, valid, refusal, refusalAt, answer, onZero, withCache, rowFor, addNumber, addInfoNumber, popAnswer, popCall, popsCall, trimAnswer, trimCall, clearCall, openCall, commitCall, rollbackCall, closeCall}
+use Rattle.anchors_cache.proofs.Laws.{anchors-cons, anchors-take, anchors-length, infos-length, total-more, popped-empty, fresh-le, kept-le, history-kept-le, length-anchor, rows-of-messages}
+use Rattle.anchors_cache.proofs.Asked.{Parts, parts, valid-parts, at-asked, refusal-zero, refusal-parts, add-refusal, add-yes, add-asks, info-refusal, info-yes, size-of}
 use Rattle.cache_laws.specs.Book.{holds}
-use Rattle.cache_laws.proofs.Views.{one-more, nonempty-anchors, total-snoc, sound-history, anchors-half, anchors-now}
+use Rattle.cache_laws.proofs.Views.{one-more, nonempty-anchors, total-snoc, Fits, entry-fits, info-sound, anchors-same, anchors-now}
 
 pub whole : (places : ℕ) (tables : List ℕ) (c : AnchorsCache) → Parts places tables c → validCache places tables c ≡ true
 unfolding validCache
@@ -168,6 +168,23 @@ sound-snoc low (b ∷ d ∷ l) a e f g =
     let h = last-low (b .id + 1) d l a (q .1) g in
     rw (q .0) (sound-snoc (b .id + 1) (d ∷ l) a (q .1) (row-raise low (b .id + 1) a h f) g)
 
+-- the window with one history entry more
+info-parts : (tables area : List ℕ) (c : AnchorsCache) (s : Sound tables area c) (i : Info) (fits : Fits i) (few : c .«history_len» < maxHistory)
+    → Parts (placesIn (length area)) tables c → Parts (placesIn (length area)) (historyAdded (infoRow i) c tables) (inHistory c)
+unfolding inHistory
+info-parts tables area c s i fits few p =
+    let sound = info-sound tables area c s i fits few in
+    let same = anchors-same tables area c s i fits few in
+    record {
+      tall = sound .tall;
+      in-anchors = p .in-anchors;
+      in-history = sound .in-history;
+      sound = rw same (p .sound);
+      few = rw same (p .few);
+      in-area = rw same (p .in-area);
+      pend = p .pend;
+    }
+
 module _ (tables area : List ℕ) (c : AnchorsCache) (s : Sound tables area c) (a : Row) (messages : List ℕ) (full : length (a .author) ≡ authorBytes) (counted : a .count ≡ length messages / 33) (r : Room tables c (a .ours) messages)
     (id-fits : a .id < 256 ^ 4) (time-fits : a .time < 256 ^ 8) (ours-fits : a .ours < 256 ^ 4)
     (p : Parts (placesIn (length area)) tables c) (above : aboveLast (a .id) (lastOf (anchorsOf tables c)) ≡ true) (ours : a .ours ≤ a .count) where
@@ -177,29 +194,22 @@ module _ (tables area : List ℕ) (c : AnchorsCache) (s : Sound tables area c) (
   abbrev d : AnchorsCache
   d = inHistory c
 
-  -- the first half of the add, as Views has it
-  half-sound : Sound t1 area d
-  half-sound = sound-history tables area c s (infoRow (infoFor a)) (length-info a full) (r .entries)
-
   abbrev places : ℕ
   places = placesIn (length area)
 
+  -- the first half of the add, as Views has it
+  entry : Fits (infoFor a)
+  entry = entry-fits tables area c s a messages full counted r id-fits time-fits ours-fits
+
+  half-sound : Sound t1 area d
+  half-sound = info-sound tables area c s (infoFor a) entry (r .entries)
+
   half-same : anchorsOf t1 d ≡ anchorsOf tables c
-  half-same = anchors-half tables area c s a messages full counted r id-fits time-fits ours-fits
+  half-same = anchors-same tables area c s (infoFor a) entry (r .entries)
 
   -- an anchor with no message of ours is in the history alone
   half-parts : Parts places t1 d
-  unfolding inHistory
-  half-parts =
-      record {
-        tall = half-sound .tall;
-        in-anchors = p .in-anchors;
-        in-history = half-sound .in-history;
-        sound = rw half-same (p .sound);
-        few = rw half-same (p .few);
-        in-area = rw half-same (p .in-area);
-        pend = p .pend;
-      }
+  half-parts = info-parts tables area c s (infoFor a) entry (r .entries) p
 
   module _ (o : 0 < a .ours) where
     abbrev used : ℕ
@@ -369,6 +379,24 @@ add-keeps-question-5 tables area t m ours messages w e =
     let c = added-parts tables area (t .cache) (q .0) (rowFor m ours k) messages (w .author) refl (q .1) (w .id) (w .time) (w .ours-fit) p (y .1) (z .2) in
     let s = y .3 in
     valid-of (placesIn n) (addedTables (rowFor m ours k) (t .cache) tables) _ c (λ f. absurd (let g : _≡_ {A = ℕ} 0 1 = cc in omega arith))
+
+-- what a number 0 says of an entry to the history alone
+pub info-asks : (area tables : List ℕ) (t : AnchorsCacheTransaction) → addInfoNumber (length area) tables t ≡ 0 → Sound tables area (t .cache)
+info-asks area tables t e =
+    let z = info-refusal (length area) tables t e in
+    let p = refusal-parts (length area) tables t z in
+    let i = p .in-area in
+    record { tall = p .tall; broad = refusal-zero (length area) tables t z .0; in-anchors = p .in-anchors; in-history = p .in-history; in-area = omega (arith, mul-div-le (length area) 33) }
+
+pub an-entry-keeps-question-5 : (tables area : List ℕ) (t : AnchorsCacheTransaction) (i : Info) → Fits i → addInfoNumber (length area) tables t ≡ 0
+    → valid (placesIn (length area)) (historyAdded (infoRow i) (t .cache) tables) (withCache t (inHistory (t .cache))) ≡ true
+an-entry-keeps-question-5 tables area t i fits e =
+    let n = length area in
+    let y = info-yes n tables t e in
+    let p = refusal-parts n tables t (info-refusal n tables t e) in
+    let c = info-parts tables area (t .cache) (info-asks area tables t e) i fits (y .0) p in
+    let s = y .1 in
+    valid-of (placesIn n) (historyAdded (infoRow i) (t .cache) tables) _ c (λ f. absurd (let g : _≡_ {A = ℕ} 0 1 = cc in omega arith))
 
 -- ---- question 5 of the cache that a window stands for
 pub holds-view : (places : ℕ) (tables area : List ℕ) (c : AnchorsCache) → Parts places tables c → holds (view tables area c) ≡ true

@@ -13,7 +13,7 @@ use borrow.Author.Tests.{lt-ltb, leb-true, ltb-true}
 use Rattle.rows.specs.Rows.{pick, part, le, rows, stays}
 use Rattle.rows.proofs.Laws.{part-length, word-le, drop-take, rows-part, rows-within, rows-length, rows-appended, appended-part, appended-before, appended-after, appended-length}
 use Rattle.anchors_cache.specs.declared.AnchorsCache.{AnchorsCache}
-use Rattle.cache_rules.specs.Rules.{Info, Anchor, Cache, Row, withRow, dropStale, nonempty, popFront, anchorTime, keepFront, trimBack, trim, addAnchor, emptyCache, total, maxAnchors, maxHistory, authorBytes, areaBytes}
+use Rattle.cache_rules.specs.Rules.{Info, Anchor, Cache, Row, withRow, dropStale, nonempty, popFront, anchorTime, keepFront, trimBack, trim, entryOf, addAnchor, addInfo, emptyCache, total, maxAnchors, maxHistory, authorBytes, areaBytes}
 use Rattle.anchors_cache.specs.Tables.{anchorRow, infoRow, anchorOf, infoOf, anchors, infos, anchorAt, withMessages, view, anchorsOf, historyOf, historyBytes, anchorBytes}
 use Rattle.anchors_cache.specs.Windows.{rowTime, poppedCache, poppedTimes, trimmedCache, noCache, inHistory, historyAdded, inCache, anchorAdded, messagesAdded, infoFor, usedBy, addedCache, addedTables, addedArea, Sound, Room}
 use Rattle.cache_rules.proofs.Lists.{stale-le}
@@ -243,11 +243,21 @@ module _ (tables area : List ℕ) (c : AnchorsCache) (s : Sound tables area c) (
       ∙ rw (messages-part (33 * c .base) area l)))
 
 -- ---- what a written row says
-module _ (a : Row) (full : length (a .author) ≡ authorBytes) (id-fits : a .id < 256 ^ 4) (time-fits : a .time < 256 ^ 8) (ours-fits : a .ours < 256 ^ 4) (count-fits : a .count < 256 ^ 2) where
-  pub info-read : infoOf (infoRow (infoFor a)) ≡ infoFor a
-  unfolding infoRow le
-  info-read = rw (word-le 4 (a .id) id-fits, word-le 8 (a .time) time-fits, word-le 4 (a .count) (omega arith), word-le 4 (a .ours) ours-fits, take-all authorBytes (a .author) (omega arith))
+-- an entry's fields have the widths of its struct
+pub record Fits (i : Info) : Type 0 where
+  pub author : length (i .author) ≡ authorBytes
+  pub id : i .id < 256 ^ 4
+  pub time : i .time < 256 ^ 8
+  pub all : i .all < 256 ^ 4
+  pub ours : i .ours < 256 ^ 4
 
+info-read : (i : Info) → Fits i → infoOf (infoRow i) ≡ i
+unfolding infoRow le
+info-read i f =
+    let n = f .author in
+    rw (word-le 4 (i .id) (f .id), word-le 8 (i .time) (f .time), word-le 4 (i .all) (f .all), word-le 4 (i .ours) (f .ours), take-all authorBytes (i .author) (omega arith))
+
+module _ (a : Row) (full : length (a .author) ≡ authorBytes) (id-fits : a .id < 256 ^ 4) (time-fits : a .time < 256 ^ 8) (ours-fits : a .ours < 256 ^ 4) (count-fits : a .count < 256 ^ 2) where
   pub anchor-read : anchorOf (anchorRow a) ≡ a
   unfolding anchorRow le
   anchor-read =
@@ -262,6 +272,25 @@ module _ (a : Row) (full : length (a .author) ≡ authorBytes) (id-fits : a .id 
         word-le 2 (a .count) count-fits,
       )
 
+-- ---- the law of an entry to the history alone
+module _ (tables area : List ℕ) (c : AnchorsCache) (s : Sound tables area c) (i : Info) (fits : Fits i) (few : c .«history_len» < maxHistory) where
+  abbrev grown : List ℕ
+  grown = historyAdded (infoRow i) c tables
+
+  wide : length (infoRow i) ≡ 52
+  wide = length-info i (fits .author)
+
+  pub info-sound : Sound grown area (inHistory c)
+  info-sound = sound-history tables area c s (infoRow i) wide few
+
+  pub anchors-same : anchorsOf grown (inHistory c) ≡ anchorsOf tables c
+  unfolding inHistory
+  anchors-same = anchors-kept tables area c s (infoRow i) wide few
+
+  pub view-info-added : view grown area (inHistory c) ≡ addInfo i (view tables area c)
+  unfolding view inHistory addInfo
+  view-info-added = rw (anchors-same, history-grown tables area c s (infoRow i) wide few, info-read i fits)
+
 -- ---- the law of an add
 module _ (tables area : List ℕ) (c : AnchorsCache) (s : Sound tables area c) (a : Row) (messages : List ℕ) (full : length (a .author) ≡ authorBytes) (counted : a .count ≡ length messages / 33) (r : Room tables c (a .ours) messages)
     (id-fits : a .id < 256 ^ 4) (time-fits : a .time < 256 ^ 8) (ours-fits : a .ours < 256 ^ 4) where
@@ -274,25 +303,21 @@ module _ (tables area : List ℕ) (c : AnchorsCache) (s : Sound tables area c) (
   many : a .count < 256 ^ 2
   many = omega (arith, counted, r .whole, r .few)
 
-  wide : length (infoRow (infoFor a)) ≡ 52
-  wide = length-info a full
-
   read-back : anchorOf (anchorRow a) ≡ a
   read-back = anchor-read a full id-fits time-fits ours-fits many
 
+  -- the first half of an add is its entry's
+  pub entry-fits : Fits (infoFor a)
+  entry-fits = let m = many in record { author = full; id = id-fits; time = time-fits; all = omega arith; ours = ours-fits }
+
   first-half : Sound t1 area d
-  first-half = sound-history tables area c s (infoRow (infoFor a)) wide (r .entries)
+  first-half = info-sound tables area c s (infoFor a) entry-fits (r .entries)
 
-  pub anchors-half : anchorsOf t1 d ≡ anchorsOf tables c
-  unfolding inHistory
-  anchors-half = anchors-kept tables area c s (infoRow (infoFor a)) wide (r .entries)
+  anchors-half : anchorsOf t1 d ≡ anchorsOf tables c
+  anchors-half = anchors-same tables area c s (infoFor a) entry-fits (r .entries)
 
-  pub history-now : historyOf t1 d ≡ historyOf tables c ++ (infoFor a ∷ [])
-  history-now = history-grown tables area c s (infoRow (infoFor a)) wide (r .entries) ∙ ap (λ (i : Info). historyOf tables c ++ (i ∷ [])) (info-read a full id-fits time-fits ours-fits many)
-
-  view-half : view t1 area d ≡ record { anchors = view tables area c .anchors; history = view tables area c .history ++ (infoFor a ∷ []); pending = view tables area c .pending }
-  unfolding view inHistory
-  view-half = rw (anchors-half, history-now)
+  view-half : view t1 area d ≡ addInfo (infoFor a) (view tables area c)
+  view-half = view-info-added tables area c s (infoFor a) entry-fits (r .entries)
 
   module _ (o : 0 < a .ours) where
     used-same : usedBy t1 d ≡ usedBy tables c
@@ -329,15 +354,15 @@ module _ (tables area : List ℕ) (c : AnchorsCache) (s : Sound tables area c) (
   abbrev View-added : Type 0
   View-added = view (addedTables a c tables) (addedArea a messages tables c area) (addedCache a (length area) (length messages) tables c) ≡ addAnchor new (view tables area c)
 
-  entry-same : record { id = a .id; time = a .time; all = length (rows 33 (a .count) messages); ours = a .ours; author = a .author } ≡ infoFor a
+  entry-same : entryOf new ≡ infoFor a
   entry-same = rw (rows-length 33 (a .count) messages)
 
   view-none : ltb 0 (a .ours) ≡ false → View-added
-  unfolding addAnchor addedTables addedArea addedCache
+  unfolding addAnchor addInfo addedTables addedArea addedCache
   view-none h = rw (h, entry-same) view-half
 
   view-some : ltb 0 (a .ours) ≡ true → View-added
-  unfolding addAnchor addedTables addedArea addedCache inHistory
+  unfolding addAnchor addInfo addedTables addedArea addedCache inHistory
   view-some h =
       let o = ltb-true 0 (a .ours) h in
       rw (h, entry-same, ← used-same o) (view-whole o ∙ ap (λ (v : Cache). record { anchors = v .anchors ++ (new ∷ []); history = v .history; pending = true }) view-half)

@@ -4,12 +4,12 @@ use Prim.Native.Nat.{ℕ, zero, suc, _/_, _≤_, _<_}
 use mathlib.Core.Path.{_≡_}
 use mathlib.Core.Bool.{Bool, true, false, _&&_, _||_}
 use mathlib.Core.List.{List, [], _∷_, _++_, map}
-use lib.Dec.{leb}
+use lib.Dec.{ltb, leb}
 use lib.ListN.{length}
 use Rattle.rows.specs.Rows.{pick}
 use Rattle.anchors_cache.specs.declared.AnchorsCacheTransaction.{AnchorsCacheTransaction}
 use Rattle.anchors_cache.specs.declared.Done.{Done}
-use Rattle.cache_rules.specs.Rules.{Cache, rowOf, popFront, trim, soundCache, total, lastOf, rightSize, aboveLast, room, ask, areaBytes}
+use Rattle.cache_rules.specs.Rules.{Cache, rowOf, popFront, trim, soundCache, total, lastOf, rightSize, aboveLast, room, ask, maxHistory, areaBytes}
 use Rattle.anchors_cache.specs.Tables.{view}
 use Rattle.anchors_cache.specs.Windows.{poppedTimes}
 use Rattle.anchors_cache.specs.Calls.{placesIn, validCache, onZero, answer, withCache}
@@ -43,6 +43,10 @@ bookAdd id ours k v rest =
     ask 6 (rightSize ours k)
     (ask 7 (aboveLast id (lastOf (map rowOf (v .anchors))))
     (ask 8 (room (length (v .anchors)) (total (map rowOf (v .anchors))) (length (v .history)) ours (k / 33)) rest))
+
+-- question 8 of an entry to the history alone
+unfoldable pub bookAddInfo : Cache → ℕ → ℕ
+bookAddInfo v rest = ask 8 (ltb (length (v .history)) maxHistory) rest
 
 -- n pops by the rule
 unfoldable pub popTimes : ℕ → Cache → Cache

@@ -8,8 +8,8 @@ use Rattle.anchors_cache.specs.declared.MempoolAnchor.{MempoolAnchor}
 use Rattle.anchors_cache.specs.declared.Done.{Done}
 use Rattle.anchors_cache.specs.declared.Popped.{Popped}
 use Rattle.anchors_cache.specs.declared.Trimmed.{Trimmed}
-use Rattle.anchors_cache.specs.Calls.{rowFor, addNumber, addCall, popCall, popsCall, trimCall, clearCall, openCall, commitCall, rollbackCall, closeCall}
-use Rattle.cache_laws.specs.Book.{Call, Effect, changes, commits, rolls-back, nothing, pops, trims, bookRefusal, bookAdd}
+use Rattle.anchors_cache.specs.Calls.{rowFor, addNumber, addCall, addInfoCall, popCall, popsCall, trimCall, clearCall, openCall, commitCall, rollbackCall, closeCall}
+use Rattle.cache_laws.specs.Book.{Call, Effect, changes, commits, rolls-back, nothing, pops, trims, bookRefusal, bookAdd, bookAddInfo}
 
 -- questions 1 and 5
 abbrev plain : Effect → (List ℕ → List ℕ → AnchorsCacheTransaction → Done) → Call
@@ -57,4 +57,13 @@ adding m ours messages =
       number = λ area b. bookRefusal (length area) b (bookAdd (m .id) ours k (b .present) 9);
       effect = λ area v. nothing;
       on-window = λ tables area t. addCall (addNumber (length area) tables t (m .id) ours k) (rowFor m ours k) (length area) k tables t;
+    }
+
+-- question 8 of the history comes before 9
+abbrev pub addingInfo : Call
+addingInfo =
+    record {
+      number = λ area b. bookRefusal (length area) b (bookAddInfo (b .present) 9);
+      effect = λ area v. nothing;
+      on-window = λ tables area t. addInfoCall (length area) tables t;
     }

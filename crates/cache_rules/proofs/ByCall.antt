@@ -10,7 +10,7 @@ use borrow.Author.Tests.{lt-ltb, le-ltb, lt-leb, le-leb}
 use lib.Dec.{ltb}
 use Rattle.rows.specs.Rows.{pick}
 use Rattle.rows.proofs.Laws.{pick-yes, pick-no}
-use Rattle.cache_rules.specs.Rules.{keepFront, Info, Anchor, Cache, Row, nonempty, maxAnchors, maxMessages, maxHistory, addAnchor, dropStale, popFront, trimBack, trimHistory, trimTo, aboveLast, room}
+use Rattle.cache_rules.specs.Rules.{keepFront, Info, Anchor, Cache, Row, nonempty, maxAnchors, maxMessages, maxHistory, entryOf, addAnchor, addInfo, dropStale, popFront, trimBack, trimHistory, trimTo, aboveLast, room}
 
 -- ---- add
 module _ (a : Anchor) (v : Cache) where
@@ -25,6 +25,21 @@ module _ (a : Anchor) (v : Cache) where
   pub an-anchor-with-ours-is-cached-last-and-pending : 0 < a .ours → (addAnchor a v .anchors ≡ v .anchors ++ (a ∷ [])) × (addAnchor a v .pending ≡ true)
   unfolding addAnchor
   an-anchor-with-ours-is-cached-last-and-pending h = rw (lt-ltb 0 (a .ours) h) (refl, refl)
+
+  -- `add` is `add_imported_anchor_info` of the anchor's entry, then the cache
+  pub an-add's-history-is-that-of-its-entry-added : addAnchor a v .history ≡ addInfo (entryOf a) v .history
+  unfolding addAnchor addInfo
+  an-add's-history-is-that-of-its-entry-added = refl
+
+  pub an-add-without-ours-is-its-entry-added : a .ours ≡ 0 → addAnchor a v ≡ addInfo (entryOf a) v
+  unfolding addAnchor addInfo
+  an-add-without-ours-is-its-entry-added e = rw e
+
+-- ---- add_imported_anchor_info
+module _ (i : Info) (v : Cache) where
+  pub an-entry-leaves-anchors-and-pending : (addInfo i v .anchors ≡ v .anchors) × (addInfo i v .pending ≡ v .pending)
+  unfolding addInfo
+  an-entry-leaves-anchors-and-pending = (refl, refl)
 
 -- ---- pop
 pub the-last-history-entry-stays-however-old : (ct : ℕ) (x : Info) → dropStale ct (x ∷ []) ≡ x ∷ []

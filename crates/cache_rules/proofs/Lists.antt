@@ -9,7 +9,7 @@ use lib.Dec.{ltb, leb}
 use lib.ListN.{length, take}
 use borrow.Author.Tests.{lt-ltb, le-ltb, leb-true, leb-false}
 use Rattle.rows.specs.Rows.{pick}
-use Rattle.cache_rules.specs.Rules.{Info, dropStale, keepFront, trimBack, trimHistory, infoTime, lastOf, lastNotAbove, infoAtCt, orElse}
+use Rattle.cache_rules.specs.Rules.{Info, Cache, addInfo, dropStale, keepFront, trimBack, trimHistory, infoTime, lastOf, lastNotAbove, infoAtCt, orElse}
 use Rattle.cache_rules.proofs.ByCall.{trim-snoc}
 
 -- ---- history from the front
@@ -82,6 +82,10 @@ unfolding lastOf
 last-snoc [] x = refl
 last-snoc (y ∷ []) x = refl
 last-snoc (y ∷ z ∷ l) x = last-snoc (z ∷ l) x
+
+pub an-added-entry-is-the-last-imported : (i : Info) (v : Cache) → lastOf (addInfo i v .history) ≡ some i
+unfolding addInfo
+an-added-entry-is-the-last-imported i v = last-snoc (v .history) i
 
 -- the entry that `last_imported_anchor_info_at_ct` answers is the last that a trim leaves
 pub last-some : {A : Type 0} (y : A) (l : List A) (o : Option A) → orElse (lastOf (y ∷ l)) o ≡ lastOf (y ∷ l)

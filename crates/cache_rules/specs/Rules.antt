@@ -54,14 +54,22 @@ nonempty [] = false
 nonempty (x ∷ l) = true
 
 -- ---- add
+-- `AnchorInfo::from_anchor`
+abbrev pub entryOf : Anchor → Info
+entryOf a = record { id = a .id; time = a .time; all = length (a .messages); ours = a .ours; author = a .author }
+
 -- to the history always, to the cache only where ours is above 0; then pending is set
 unfoldable pub addAnchor : Anchor → Cache → Cache
 addAnchor a v =
     record {
       anchors = pick (ltb 0 (a .ours)) (v .anchors ++ (a ∷ [])) (v .anchors);
-      history = v .history ++ (record { id = a .id; time = a .time; all = length (a .messages); ours = a .ours; author = a .author } ∷ []);
+      history = v .history ++ (entryOf a ∷ []);
       pending = pick (ltb 0 (a .ours)) true (v .pending);
     }
+
+-- `add_imported_anchor_info`: to the history alone
+unfoldable pub addInfo : Info → Cache → Cache
+addInfo i v = record { anchors = v .anchors; history = v .history ++ (i ∷ []); pending = v .pending }
 
 -- ---- pop
 -- history entries go from the front while their chain time is below ct and more than one remains

@@ -8,17 +8,19 @@ use native.Mathlib.Omega.{arith}
 use lib.ListN.{length}
 use Rattle.anchors_cache.specs.declared.AnchorsCacheTransaction.{AnchorsCacheTransaction}
 use Rattle.anchors_cache.specs.declared.Done.{Done}
-use Rattle.anchors_cache.specs.Tables.{view}
+use Rattle.anchors_cache.specs.declared.AnchorInfo.{AnchorInfo}
 use Rattle.anchors_cache.specs.declared.MempoolAnchor.{MempoolAnchor}
-use Rattle.anchors_cache.specs.Calls.{onZero, answer, addNumber, addCall, openCall, closeCall}
+use Rattle.anchors_cache.specs.Tables.{infoRow, view}
+use Rattle.anchors_cache.specs.Windows.{historyAdded, addedTables, addedArea}
+use Rattle.anchors_cache.specs.Calls.{answer, rowFor, infoWith, addCall, addInfoCall, openCall, closeCall}
 use Rattle.cache_laws.specs.Book.{Book, Area, same, short, lent, begin, finish, enter, applied, reading, entered, bookNumbers, performed, numbers, committedIn, sinceRollback}
-use Rattle.cache_laws.specs.Entries.{popping, poppingMany, trimming, committing, rollingBack, closing, opening, clearing, adding}
-use Rattle.cache_laws.proofs.Claim.{Stands, opened-stands, an-add-in-the-list-writes-nothing, Follows, Simulates, lent-follows, short-follows, pop-simulates, pops-simulates, trim-simulates, reading-simulates, commit-simulates, rollback-simulates, add-simulates, open-simulates, clear-simulates, close-refuses, the-book}
+use Rattle.cache_laws.specs.Entries.{popping, poppingMany, trimming, committing, rollingBack, closing, opening, clearing, adding, addingInfo}
+use Rattle.cache_laws.proofs.Claim.{Stands, opened-stands, an-add-in-the-list-writes-nothing, an-entry-in-the-list-writes-nothing, Follows, Simulates, lent-follows, short-follows, pop-simulates, pops-simulates, trim-simulates, reading-simulates, commit-simulates, rollback-simulates, add-simulates, info-simulates, open-simulates, clear-simulates, close-refuses, the-book}
 use Rattle.cache_laws.proofs.Corollaries as corollary
 use Rattle.range_laws.specs.OneRange.{Handed, bookSteps, bookReadNumber, readOnWindow}
 use Rattle.range_laws.proofs.Entered.{one-range}
 use Rattle.reader_laws.specs.AllRanges.{HandedAll, bookAllNumber, bookAllPops, readAllOnWindow}
-use Rattle.reader_laws.specs.Steps.{Step, pop, popFronts, trimAbove, readsOne, readsAll, commit, rollback, adds, opens, clears, closes, call, LentBytes, handedBytes, addLeaves, leaves, NothingWritten}
+use Rattle.reader_laws.specs.Steps.{Step, pop, popFronts, trimAbove, readsOne, readsAll, commit, rollback, adds, addsInfo, opens, clears, closes, call, handedBytes, addLeaves, infoLeaves, leaves, NothingWritten}
 use Rattle.reader_laws.proofs.Entered.{all-ranges}
 use Rattle.cache_rules.specs.Rules.{areaBytes}
 
@@ -40,32 +42,29 @@ each (readsAll a h) = lent-follows _ (all-simulates h) a
 each (commit a) = lent-follows committing commit-simulates a
 each (rollback a) = lent-follows rollingBack rollback-simulates a
 each (adds a m ours messages) = lent-follows (adding m ours messages) (add-simulates m ours messages) a
+each (addsInfo a i author) = lent-follows addingInfo info-simulates a
 each (opens a) = lent-follows opening open-simulates a
 each (clears a) = lent-follows clearing clear-simulates a
 each (closes bytes p) = λ tables area big. short-follows closing close-refuses bytes p tables area
 
 -- ---- no call writes the lent bytes
-by-number : (n : ℕ) (a b c d : List ℕ) → (n ≡ 0 → ⊥) → _≡_ {A = LentBytes} (record { tables = onZero n a b; area = onZero n c d }) (record { tables = b; area = d })
-by-number zero a b c d h = absurd (h refl)
-by-number (suc n) a b c d h = refl
-
-never-0 : (n : ℕ) → ((x y : ℕ) → onZero n x y ≡ y) → n ≡ 0 → ⊥
-never-0 zero h e = let z = h 0 1 in omega arith
-never-0 (suc n) h e = omega arith
-
 module _ (tables area : List ℕ) (big : areaBytes ≤ length area) where
   add-leaves : (a : Area) (m : MempoolAnchor) (ours : ℕ) (messages : List ℕ) (t : AnchorsCacheTransaction) (b : Book) → Stands tables area t b
       → addLeaves m ours messages tables (lent area a) t ≡ record { tables = tables; area = lent area a }
   unfolding addCall answer
   add-leaves same m ours messages t b s =
-      by-number (addNumber (length area) tables t (m .id) ours (length messages)) _ _ _ _
-      (never-0 _ (λ (x y : ℕ). an-add-in-the-list-writes-nothing tables area big t b s (m .id) ours (length messages) x y))
-  add-leaves (short bytes p) m ours messages t b s =
-      by-number (addNumber (length bytes) tables t (m .id) ours (length messages)) _ _ _ _
-      (λ e. let f = ap (λ (d : Done). d .number) (add-simulates m ours messages .refuses tables bytes p t b .0) in omega (arith, f, e))
+      rw (an-add-in-the-list-writes-nothing tables area big t b s (m .id) ours (length messages) (addedTables (rowFor m ours (length messages)) (t .cache) tables) tables, an-add-in-the-list-writes-nothing tables area big t b s (m .id) ours (length messages) (addedArea (rowFor m ours (length messages)) messages tables (t .cache) area) area)
+  add-leaves (short bytes p) m ours messages t b s = rw (ap (λ (d : Done). d .number) (add-simulates m ours messages .refuses tables bytes p t b .0))
+
+  info-leaves : (a : Area) (i : AnchorInfo) (author : List ℕ) (t : AnchorsCacheTransaction) (b : Book) → Stands tables area t b
+      → infoLeaves i author tables (lent area a) t ≡ record { tables = tables; area = lent area a }
+  unfolding addInfoCall answer
+  info-leaves same i author t b s = rw (an-entry-in-the-list-writes-nothing tables area big t b s (historyAdded (infoRow (infoWith i author)) (t .cache) tables) tables)
+  info-leaves (short bytes p) i author t b s = rw (ap (λ (d : Done). d .number) (info-simulates .refuses tables bytes p t b .0))
 
   leaves-lent : (k : Step) (t : AnchorsCacheTransaction) (b : Book) → Stands tables area t b → leaves k tables area t ≡ handedBytes k tables area
   leaves-lent (adds a m ours messages) t b s = add-leaves a m ours messages t b s
+  leaves-lent (addsInfo a i author) t b s = info-leaves a i author t b s
   leaves-lent (pop a) t b s = refl
   leaves-lent (popFronts a n) t b s = refl
   leaves-lent (trimAbove a ct) t b s = refl

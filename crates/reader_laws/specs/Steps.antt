@@ -6,10 +6,12 @@ use mathlib.Core.List.{List, [], _∷_}
 use lib.ListN.{length}
 use Rattle.anchors_cache.specs.declared.MempoolAnchor.{MempoolAnchor}
 use Rattle.anchors_cache.specs.declared.AnchorsCacheTransaction.{AnchorsCacheTransaction}
-use Rattle.anchors_cache.specs.Windows.{addedTables, addedArea}
-use Rattle.anchors_cache.specs.Calls.{onZero, rowFor, addNumber}
+use Rattle.anchors_cache.specs.declared.AnchorInfo.{AnchorInfo}
+use Rattle.anchors_cache.specs.Tables.{infoRow}
+use Rattle.anchors_cache.specs.Windows.{historyAdded, addedTables, addedArea}
+use Rattle.anchors_cache.specs.Calls.{onZero, infoWith, addInfoNumber, rowFor, addNumber}
 use Rattle.cache_laws.specs.Book.{Area, short, lent, lend, Call, reading}
-use Rattle.cache_laws.specs.Entries.{popping, poppingMany, trimming, committing, rollingBack, closing, opening, clearing, adding}
+use Rattle.cache_laws.specs.Entries.{popping, poppingMany, trimming, committing, rollingBack, closing, opening, clearing, adding, addingInfo}
 use Rattle.range_laws.specs.OneRange.{Handed, bookSteps, bookReadNumber, readOnWindow}
 use Rattle.reader_laws.specs.AllRanges.{HandedAll, bookAllNumber, bookAllPops, readAllOnWindow}
 use Rattle.cache_rules.specs.Rules.{areaBytes}
@@ -24,6 +26,7 @@ pub data Step : Type 0 where
   commit : Area → Step
   rollback : Area → Step
   adds : Area → MempoolAnchor → ℕ → List ℕ → Step
+  addsInfo : Area → AnchorInfo → List ℕ → Step
   opens : Area → Step
   clears : Area → Step
   closes : (bytes : List ℕ) → length bytes < areaBytes → Step
@@ -37,6 +40,7 @@ call (readsAll a h) = lend a (reading (bookAllNumber h) (λ area present. bookAl
 call (commit a) = lend a committing
 call (rollback a) = lend a rollingBack
 call (adds a m ours messages) = lend a (adding m ours messages)
+call (addsInfo a i author) = lend a addingInfo
 call (opens a) = lend a opening
 call (clears a) = lend a clearing
 call (closes bytes p) = lend (short bytes p) closing
@@ -56,6 +60,7 @@ areaOf (readsAll a h) area = lent area a
 areaOf (commit a) area = lent area a
 areaOf (rollback a) area = lent area a
 areaOf (adds a m ours messages) area = lent area a
+areaOf (addsInfo a i author) area = lent area a
 areaOf (opens a) area = lent area a
 areaOf (clears a) area = lent area a
 areaOf (closes bytes p) area = bytes
@@ -73,9 +78,14 @@ addLeaves m ours messages tables area t =
       area = onZero number (addedArea (rowFor m ours k) messages tables (t .cache) area) area;
     }
 
+-- and of an entry to the history alone
+abbrev pub infoLeaves : AnchorInfo → List ℕ → List ℕ → List ℕ → AnchorsCacheTransaction → LentBytes
+infoLeaves i author tables area t = record { tables = onZero (addInfoNumber (length area) tables t) (historyAdded (infoRow (infoWith i author)) (t .cache) tables) tables; area = area }
+
 -- what a call leaves of them; no other call is lent bytes to write
 abbrev pub leaves : Step → List ℕ → List ℕ → AnchorsCacheTransaction → LentBytes
 leaves (adds a m ours messages) tables area t = addLeaves m ours messages tables (lent area a) t
+leaves (addsInfo a i author) tables area t = infoLeaves i author tables (lent area a) t
 leaves (pop a) tables area t = handedBytes (pop a) tables area
 leaves (popFronts a n) tables area t = handedBytes (popFronts a n) tables area
 leaves (trimAbove a ct) tables area t = handedBytes (trimAbove a ct) tables area

@@ -1,5 +1,5 @@
 use Rattle.anchors_cache.proofs.Laws.{info-written}
-use Rattle.anchors_cache.specs.Calls.{rowFor}
+use Rattle.anchors_cache.specs.Calls.{infoWith}
 use Prim.Native.Nat.{_-_}
 use mathlib.Core.Path.{_≡_, refl}
 use lib.ListN.{length}
@@ -26,11 +26,17 @@ put-le-requires-2 c κs = search needs
 slice-aggregate-put-le-3 : tie.Need-slice-aggregate-put-le-3
 slice-aggregate-put-le-3 c = search needs
 
+cast-put-le-2 : tie.Need-cast-put-le-2
+cast-put-le-2 c = search needs
+
 put-le-requires-3 : tie.Need-put-le-requires-3
 put-le-requires-3 c κs = search needs
 
 slice-aggregate-put-le-4 : tie.Need-slice-aggregate-put-le-4
 slice-aggregate-put-le-4 c = search needs
+
+cast-put-le-3 : tie.Need-cast-put-le-3
+cast-put-le-3 c = search needs
 
 put-le-requires-4 : tie.Need-put-le-requires-4
 put-le-requires-4 c κs = search needs
@@ -46,10 +52,10 @@ copy-in-requires c κs = search needs
 
 returns : tie.Need-returns
 returns c =
-    let a = c .before .before .before .before .before .before .before .before .before .before .before .before .before .before .before .before .before .before .before .args in
-    let full : length (a .a .author) ≡ authorBytes = search needs in
-    rw (c .before .copy-in .ensures, c .before .before .before .before .before .put-le4 .ensures, c .before .before .before .before .before .before .before .before .put-le3 .ensures, c .before .before .before .before .before .before .before .before .before .before .before .put-le2 .ensures, c .before .before .before .before .before .before .before .before .before .before .before .before .before .before .put-le .ensures)
-    (info-written (rowFor (a .a) (a .ours) (a .k)) full _ refl)
+    let a = c .before .before .before .before .before .before .before .before .before .before .before .before .before .before .before .before .before .before .before .before .args in
+    let full : length (a .t2) ≡ authorBytes = c .before .before .before .before .before .before .before .before .before .before .before .before .before .before .before .before .before .before .before .before .good .1 .0 .1 .0 .1 in
+    rw (c .before .copy-in .ensures, c .before .before .before .before .before .put-le4 .ensures, c .before .before .before .before .before .before .before .before .before .put-le3 .ensures, c .before .before .before .before .before .before .before .before .before .before .before .before .before .put-le2 .ensures, c .before .before .before .before .before .before .before .before .before .before .before .before .before .before .before .before .put-le .ensures)
+    (info-written (infoWith (a .e) (a .t2)) full _ refl)
 
 pub info-row-spec : {M : Type 1} → statement M
 info-row-spec =
@@ -61,8 +67,10 @@ info-row-spec =
     slice-aggregate-put-le-2
     put-le-requires-2
     slice-aggregate-put-le-3
+    cast-put-le-2
     put-le-requires-3
     slice-aggregate-put-le-4
+    cast-put-le-3
     put-le-requires-4
     slice-aggregate-copy-in
     slice-aggregate-copy-in-2
