@@ -17,7 +17,7 @@ import extread_list  # noqa: E402
 from gen_sessions import A, CLOSE, COMMIT, FULL, NONE, OPEN, POP, READ, REFILL, ROLLBACK  # noqa: E402
 from gen_sessions import acc, anchor, do, one, places, put_partition, put_range, rec, route, settings, shard  # noqa: E402
 
-RANDOM = {'range': 60, 'beyond': 60, 'reader': 100, 'mixed': 20}    # how many of each kind
+RANDOM = {'range': 60, 'beyond': 60, 'reader': 100, 'mixed': 20, 'infos': 20}    # how many of each kind
 TOP64 = 2**64 - 1
 OURS, OTHER = (0, A), (-1, A)
 B = acc(0, 1)
@@ -32,6 +32,10 @@ def cached(*a):
 
 def history(aid, ct, count=1, ours=1):
     return rec(0x106, g.struct.pack('<IQII', aid, ct, count, ours) + bytes(32))
+
+
+def info(aid, ct, count=1, ours=1):
+    return rec(0x117, history(aid, ct, count, ours)[6:])
 
 
 def trim(ct):
@@ -271,6 +275,21 @@ def caches():
     }
 
 
+def infos():
+    """Entries to the history alone."""
+    some = [anchor(5, 1000, 1, [OURS]), anchor(6, 1000, 0, [OURS])]
+    return {
+        'info_is_the_last_imported': HEAD + some + [info(3, 900, 7, 9), info_at(TOP64), info_at(950), in_range(9, 0), do(POP), trim(950), trim(0)],
+        'info_of_any_numbers': HEAD + [info(2**32 - 1, TOP64, 2**32 - 1, 2**32 - 1), info(0, 0, 0, 0), info_at(0)],
+        'info_leaves_pending': HEAD + [info(1, 1000), do(OPEN), do(READ), do(CLOSE)],
+        'info_gives_the_position': HEAD + some + [info(9, 1100, 4, 0), do(OPEN), do(READ), do(COMMIT), do(CLOSE)],
+        'info_1_area_short': HEAD + [area(33791), info(1, 1), area(33792), info(1, 1)],
+        'info_9_open': HEAD + some + [do(OPEN), info(7, 7), do(POP), do(CLOSE), info(7, 7)],
+        'info_17_too_short': HEAD + [rec(0x117, bytes(51))],
+        'info_17_too_long': HEAD + [rec(0x117, bytes(53))],
+    }
+
+
 def whole_reads():
     """The read of all ranges."""
     two, three = anchor(1, 1000, 2, [OURS, OURS]), anchor(2, 1000, 3, [OURS] * 3)
@@ -446,7 +465,7 @@ def functions():
 def sessions():
     """Names and bytes, in the list's order."""
     named = {}
-    for group in (refusals(), walks(), caches(), whole_reads(), functions()):
+    for group in (refusals(), walks(), caches(), whole_reads(), functions(), infos()):
         assert not named.keys() & group.keys()
         named.update(group)
     some = [('%s %d' % (kind, i), g.session(i, kind)) for kind, n in RANDOM.items() for i in range(1, n + 1)]

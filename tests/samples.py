@@ -183,6 +183,7 @@ RECORDS = {
     'info_at': lambda w: x.info_at(w.named('time_ms', 64)),
     'in_range': lambda w: x.in_range(w.bare(32), w.bare(64)),
     'new': lambda w: x.NEW,
+    'info': lambda w: g.rec(0x117, put_history(w)[6:]),
     'hex': lambda w: b''.join(raw(t) for t in w.rest()),
     **{name: lambda w, n=n: g.do(n) for n, name in enumerate(DOS, 1)},
 }
@@ -239,8 +240,8 @@ def line_of(kind, p):
         return ' '.join(['range seqno:%d' % n('I')] + keys + ['time_ms:%d fully_read:%d' % n('QB', 40)] + parts)
     if kind == 0x103 and len(p) == 10 and (p[1] == 1 or p[1:] == bytes(9)):
         return 'marks all_read:%d' % p[0] + (' last_ms:%d' % n('Q', 2) if p[1] else '')
-    if kind == 0x106 and len(p) == 52:
-        return 'history id:%d time_ms:%d all:%d ours:%d by:' % n('IQII') + p[20:].hex()
+    if kind in (0x106, 0x117) and len(p) == 52:
+        return ('history' if kind == 0x106 else 'info') + ' id:%d time_ms:%d all:%d ours:%d by:' % n('IQII') + p[20:].hex()
     plain = {
         0x102: ('partition %d present:%d processed:%d,%d offset:%d', 'BBIQI'), 0x104: ('places %d', 'I'), 0x108: ('area %d', 'I'),
         0x110: ('trim time_ms:%d', 'Q'), 0x111: ('one seqno:%d mode:%d', 'IB'), 0x112: ('took seqno:%d partition:%d messages:%d', 'IBI'),

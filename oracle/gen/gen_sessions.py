@@ -927,8 +927,26 @@ def caps(r):
     return flat(out)
 
 
+def with_infos(r, recs):
+    """The same records with entries to the history alone (0117) among them, and some put entries as such calls."""
+    out = []
+    full = r.randint(2, 1000)    # where the history is filled, in a few sessions
+    for one in recs:
+        if one[4:6] == b'\x06\x01' and r.random() < 0.7:
+            one = rec(0x117, one[6:])
+        out.append(one)
+        while r.random() < 0.25 and len(out) > 2:
+            size = 52 if r.random() < 0.998 else r.choice([0, 51, 53])
+            aid, ct = r.choice([r.randint(0, 9), r.getrandbits(32)]), r.choice([r.randint(0, 70000), r.getrandbits(64)])
+            entry = struct.pack('<IQII', aid, ct, r.choice([0, 1, 5, 2**32 - 1]), r.choice([0, 1, 9, 2**32 - 1])) + r.randbytes(32)
+            out.extend([rec(0x117, (entry + b'x')[:size])] * (257 if len(out) == full else 1))
+    return out
+
+
 def session(seed, kind):
     r = random.Random(seed)
+    if kind == 'infos':
+        return flat(with_infos(r, r.choice([beyond, one_range, readers])(r)))
     if kind == 'mixed':
         x = r.random()
         kind = 'plain' if x < 0.75 else 'malformed' if x < 0.97 else 'caps'
@@ -948,7 +966,7 @@ def main():
     p.add_argument('--seed', type=int, default=1)
     p.add_argument('--count', type=int)
     p.add_argument('--dir')
-    p.add_argument('--kind', choices=['plain', 'malformed', 'caps', 'mixed', 'beyond', 'range', 'reader'], default='mixed')
+    p.add_argument('--kind', choices=['plain', 'malformed', 'caps', 'mixed', 'beyond', 'range', 'reader', 'infos'], default='mixed')
     p.add_argument('--sample', action='store_true')
     p.add_argument('--named')
     p.add_argument('--list', action='store_true')

@@ -79,6 +79,8 @@ pub fn well_made(kind: u16, p: &[u8]) -> bool {
         0x115 => p.len() == 12,
         // `new` once more
         0x116 => p.is_empty(),
+        // `add_imported_anchor_info`: the payload of 0106
+        0x117 => p.len() == 52,
         _ => false,
     }
 }
@@ -134,6 +136,7 @@ impl Session<'_> {
                 let yes = view.cache().check_has_pending_externals_in_range(&f.key().into());
                 writeln!(self.out, "in_range {}", u8::from(yes)).unwrap();
             }
+            0x117 => self.info(&mut f, view),
             _ => {
                 let mut copy = view.cache().clone();
                 self.reader.renew(&mut AnchorsCacheTransaction::new(&mut copy));
@@ -179,6 +182,19 @@ impl Session<'_> {
         }
         hook::put_cached(c, self.mempool_anchor(&a), a.ours as usize);
         Ok(())
+    }
+
+    fn info(&mut self, f: &mut Fields<'_>, view: View<'_, '_>) {
+        let number = match view {
+            _ if self.area < AREA => 1,
+            view if hook::history(view.cache()).len() >= MAX_HISTORY => 8,
+            View::Open(_) => 9,
+            View::Closed(c) => {
+                c.add_imported_anchor_info(history_entry(f));
+                0
+            }
+        };
+        self.line("info", number);
     }
 
     fn trim(&mut self, ct: u64, mut view: View<'_, '_>) {
@@ -269,14 +285,17 @@ impl Session<'_> {
     }
 }
 
-fn put_history(f: &mut Fields<'_>, view: View<'_, '_>) -> Result<(), Stop> {
+fn history_entry(f: &mut Fields<'_>) -> AnchorInfo {
     let (id, ct, all, ours) = (f.u32(), f.u64(), f.u32() as usize, f.u32() as usize);
-    let author = PeerId(f.take());
+    AnchorInfo { id, ct, all_exts_count: all, our_exts_count: ours, author: PeerId(f.take()) }
+}
+
+fn put_history(f: &mut Fields<'_>, view: View<'_, '_>) -> Result<(), Stop> {
+    let info = history_entry(f);
     let View::Closed(c) = view else { return Err(Stop::Bad(9)) };
     if hook::history(c).len() >= MAX_HISTORY {
         return Err(Stop::Bad(5));
     }
-    let info = AnchorInfo { id, ct, all_exts_count: all, our_exts_count: ours, author };
     hook::put_history(c, info);
     Ok(())
 }

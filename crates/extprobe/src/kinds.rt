@@ -30,6 +30,8 @@ pub const IN_RANGE: u16 = 277;
 
 pub const NEW: u16 = 278;
 
+pub const INFO: u16 = 279;
+
 // How long the payload of a kind is; a cached anchor's has 33 bytes for each message.
 // No payload is as long as that of an unknown kind.
 fn length_of(kind: u16, p: &[u8]) -> usize {
@@ -41,7 +43,7 @@ fn length_of(kind: u16, p: &[u8]) -> usize {
         MARKS => 10,
         PLACES | AREA => 4,
         LIMITS => 16,
-        HISTORY => 52,
+        HISTORY | INFO => 52,
         TRIM | INFO_AT => 8,
         ONE => 5,
         TOOK => 9,

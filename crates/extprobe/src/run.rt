@@ -64,6 +64,24 @@ fn trim(tables: &[u8], area: &[u8], text: &mut [u8; 131072], run: Run, ct: u64) 
     state::with_at(state::with_cache(run, done.state), at)
 }
 
+// An entry to the history alone, on the part of the area that is lent.
+fn info(
+    tables: &mut [u8; 14912],
+    area: &[u8],
+    text: &mut [u8; 131072],
+    run: Run,
+    p: &[u8],
+) -> Run {
+    let session = run.session;
+    let n = run.area;
+    if area.len() < n {
+        return run;
+    }
+    let done = probe_cache::given::add_info(tables, &area[0..n], session.transaction, p);
+    let at = text::put_call(text, session.at, b"info", done.number);
+    state::with_at(state::with_cache(run, done.state), at)
+}
+
 // The host took: seqno 4, partition 1, number 4.
 fn took(text: &mut [u8; 131072], run: Run, p: &[u8]) -> Run {
     let seqno = rows::u32_at(p, 0);
@@ -232,6 +250,7 @@ fn beyond(
             run,
             probe_cache::given::append_info(tables, session.transaction, p),
         ),
+        kinds::INFO => info(tables, area, text, run, p),
         kinds::CACHED => taken(
             text,
             run,

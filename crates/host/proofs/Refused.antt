@@ -16,8 +16,9 @@ use Rattle.anchors_cache.specs.declared.FoundAnchor.{FoundAnchor}
 use Rattle.anchors_cache.specs.declared.FoundAnchor.the-variants as front
 use Rattle.anchors_cache.specs.declared.FoundInfo.{FoundInfo}
 use Rattle.anchors_cache.specs.declared.FoundInfo.the-variants as last
-use Rattle.anchors_cache.specs.Calls.{onZero, answer, refusalAt, withCache, rowFor, addNumber, addCall, clearCall, openCall, popCall, commitCall, rollbackCall, trimCall, closeCall}
-use Rattle.anchors_cache.specs.Windows.{addedCache, addedTables, addedArea}
+use Rattle.anchors_cache.specs.Calls.{onZero, answer, refusalAt, withCache, rowFor, addNumber, addCall, infoWith, addInfoNumber, addInfoCall, clearCall, openCall, popCall, commitCall, rollbackCall, trimCall, closeCall}
+use Rattle.anchors_cache.specs.Tables.{infoRow}
+use Rattle.anchors_cache.specs.Windows.{inHistory, historyAdded, addedCache, addedTables, addedArea}
 use Rattle.anchors_cache.proofs.Asked.{on-not}
 use Rattle.by_reference.proofs.Refused.{a-refused-open-leaves-the-transaction, a-refused-pop-leaves-the-transaction, a-refused-commit-leaves-the-transaction, a-refused-rollback-leaves-the-transaction, a-refused-trim-leaves-the-transaction, a-refused-close-leaves-the-transaction}
 use Rattle.range_rules.specs.declared.ExternalsRangeReaderState.{ExternalsRangeReaderState}
@@ -30,12 +31,13 @@ use Rattle.range_rules.specs.Rules.{Outcome}
 use Rattle.range_reader.specs.Calls.{ReadResult, askedNumber, rangeRead, refusedAnswer, doneResult, readAnswer, readCall}
 use Rattle.externals_reader.specs.declared.ReaderDone.{ReaderDone}
 use Rattle.externals_reader.specs.Calls.{ReadAllResult, unchanged, askedOfRead, allRead, readAllCall}
+use Rattle.host.specs.declared.HistoryEntry.{HistoryEntry}
 use Rattle.host.specs.declared.Reader.{Reader}
 use Rattle.host.specs.declared.ReaderAfter.{ReaderAfter}
 use Rattle.host.specs.declared.SavedTime.{SavedTime}
 use Rattle.host.specs.declared.RangeSettings.{RangeSettings}
 use Rattle.host.specs.Shapes.{readerOf, groupMode, rangeMode, lastTime, savedTime, heldReader, leftReader, anchorShown, infoShown}
-use Rattle.host.specs.Calls.{Added, addShown, popShown, trimShown, readerShown, onReader, newShown, readAllShown, readAll, readRangeShown, readRange}
+use Rattle.host.specs.Calls.{Added, addShown, entryShown, popShown, trimShown, readerShown, onReader, newShown, readAllShown, readAll, readRangeShown, readRange}
 
 -- ---- what the calls that change something are lent to change, and what they leave
 pub record Lent : Type 0 where
@@ -60,6 +62,7 @@ pub data Change : Type 0 where
   ext-pop-front : Change
   ext-remove-last-imported-above : ChainTime → Change
   ext-add : MempoolAnchor → ℕ → List ℕ → Change
+  ext-add-imported-anchor-info : HistoryEntry → Change
   ext-new-reader : Change
   -- the eleven that take the reader alone: from `ext_set_buffer_limits_by_partition` to `ext_messages_taken`
   on-the-reader : (ExternalsReader → ReaderDone) → Change
@@ -98,6 +101,7 @@ called ext-clear l = withDone l (clearCall (length (l .area)) (l .tables) (l .tr
 called ext-pop-front l = let p = popShown (popCall (length (l .area)) (l .tables) (l .transaction)) in withTransaction l (p .answer .number) (p .state)
 called (ext-remove-last-imported-above ct) l = let p = trimShown (trimCall (length (l .area)) (ct .0) (l .tables) (l .transaction)) in withTransaction l (p .answer .number) (p .state)
 called (ext-add anchor ours messages) l = withAdded l (addShown (l .tables) (l .area) anchor ours messages (l .transaction))
+called (ext-add-imported-anchor-info e) l = withAdded l (entryShown (l .tables) (l .area) e (l .transaction))
 called ext-new-reader l = withReader l (newShown (l .reader))
 called (on-the-reader call) l = withReader l (onReader call (l .reader))
 called (ext-read-into-buffers routes refill) l = withAllRead l (readAll (l .out) (l .tables) (l .area) routes refill (record { transaction = l .transaction; reader = l .reader }))
@@ -131,6 +135,11 @@ module _ (l : Lent) where
   add-leaves zero t tables area h = absurd (h refl)
   add-leaves (suc n) t tables area h = refl
 
+  entry-leaves : (n : ℕ) (t : AnchorsCacheTransaction) (tables : List ℕ) → (n ≡ 0 → ⊥) → withAdded l (record { done = answer n (l .transaction) t; tables = onZero n tables (l .tables); area = l .area }) .lent ≡ l
+  unfolding answer
+  entry-leaves zero t tables h = absurd (h refl)
+  entry-leaves (suc n) t tables h = refl
+
   reader-leaves : (d : ReaderDone) → (d .number ≡ 0 → ⊥) → withReader l (readerShown (l .reader) d) .lent ≡ l
   unfolding readerShown
   reader-leaves d h = ap (λ (r : Reader). withReader l (record { number = 0; reader = r }) .lent) (a-refused-call-leaves-the-host's-reader (l .reader) (d .number) (d .reader) h)
@@ -161,7 +170,7 @@ module _ (l : Lent) where
 
 -- ---- all calls
 pub a-call-with-a-number-other-than-0-leaves-all-that-it-was-lent : (c : Change) (l : Lent) → (called c l .number ≡ 0 → ⊥) → called c l .lent ≡ l
-unfolding popShown trimShown addShown addCall answer newShown readerShown readAll
+unfolding popShown trimShown addShown addCall entryShown addInfoCall answer newShown readerShown readAll
 a-call-with-a-number-other-than-0-leaves-all-that-it-was-lent ext-open l h = transaction-left l _ (a-refused-open-leaves-the-transaction (length (l .area)) 0 (l .tables) (l .transaction) h)
 a-call-with-a-number-other-than-0-leaves-all-that-it-was-lent ext-commit l h = transaction-left l _ (a-refused-commit-leaves-the-transaction (length (l .area)) 0 (l .tables) (l .transaction) h)
 a-call-with-a-number-other-than-0-leaves-all-that-it-was-lent ext-rollback l h = transaction-left l _ (a-refused-rollback-leaves-the-transaction (length (l .area)) 0 (l .tables) (l .transaction) h)
@@ -182,6 +191,10 @@ a-call-with-a-number-other-than-0-leaves-all-that-it-was-lent (ext-add anchor ou
     (addedTables a c (l .tables))
     (addedArea a messages (l .tables) c (l .area))
     h
+a-call-with-a-number-other-than-0-leaves-all-that-it-was-lent (ext-add-imported-anchor-info e) l h =
+    let c = l .transaction .cache in
+    let n = addInfoNumber (length (l .area)) (l .tables) (l .transaction) in
+    entry-leaves l n (withCache (l .transaction) (inHistory c)) (historyAdded (infoRow (infoWith (e .info) (e .author))) c (l .tables)) h
 a-call-with-a-number-other-than-0-leaves-all-that-it-was-lent ext-new-reader l h = reader-leaves l _ h
 a-call-with-a-number-other-than-0-leaves-all-that-it-was-lent (on-the-reader call) l h = reader-leaves l (call (readerOf (l .reader))) h
 a-call-with-a-number-other-than-0-leaves-all-that-it-was-lent (ext-read-into-buffers routes refill) l h = all-leaves l routes (readerOf (l .reader)) (groupMode refill) h

@@ -13,7 +13,7 @@ use Rattle.anchors_cache.specs.declared.AnchorsCacheTransaction.{AnchorsCacheTr
 use Rattle.anchors_cache.specs.declared.Done.{Done}
 use Rattle.range_reader.specs.Calls.{ReadResult}
 use Rattle.externals_reader.specs.Calls.{ReadAllResult}
-use Rattle.host.specs.Calls.{Added, addShown, readAllShown, readAll, readRangeShown, readRange}
+use Rattle.host.specs.Calls.{Added, addShown, entryShown, readAllShown, readAll, readRangeShown, readRange}
 use Rattle.host.specs.declared.Externals.{Externals}
 use Rattle.host.specs.declared.AllRead.{AllRead}
 use Rattle.host.specs.declared.RangeAndCache.{RangeAndCache}
@@ -24,6 +24,8 @@ use Rattle.anchors_cache.proofs.MempoolAnchor as M
 use Rattle.anchors_cache.proofs.MempoolAnchor.Laws as M′
 use Rattle.by_reference.proofs.Thin.{Result, Param, Nows, Ends, CoreSays, FSays, lent-bytes, lent-mut, by-value, number, flag}
 use Rattle.by_reference.proofs.Calls.{number-and-state}
+use Rattle.host.proofs.HistoryEntry as H
+use Rattle.host.proofs.HistoryEntry.Laws as H′
 use Rattle.host.proofs.AnchorShown as Front
 use Rattle.host.proofs.AnchorShown.Laws as Front′
 use Rattle.host.proofs.AnchorPopped as P
@@ -146,6 +148,22 @@ add-says s z t r u = (r ≡ adds s t .done .number) × (u ≡ adds s t .done .st
 
 pub add-follows : (s : Nows adding) (z : Ends adding) (t : AnchorsCacheTransaction) (r : Done) → add-core-says s z t r → add-says s z t (r .number) (r .state)
 add-follows s z t r e = (ap (λ (d : Done). d .number) (e .0), ap (λ (d : Done). d .state) (e .0), e .1, e .2)
+
+-- ---- an entry: the tables, which change, the message area, and the entry
+abbrev pub adding-entry : List (Param 2)
+adding-entry = lent-mut 2 0 tt ∷ lent-bytes 2 1 tt ∷ by-value 2 H.the-type H′.the-laws ∷ []
+
+abbrev entry-adds : Nows adding-entry → AnchorsCacheTransaction → Added
+entry-adds s t = entryShown (s .0) (s .1 .0) (s .1 .1 .0) t
+
+abbrev pub entry-core-says : CoreSays T.the-type number-and-state adding-entry
+entry-core-says s z t r = (r ≡ entry-adds s t .done) × (z .0 ≡ entry-adds s t .tables)
+
+abbrev pub entry-says : FSays T.the-type number-and-state adding-entry
+entry-says s z t r u = (r ≡ entry-adds s t .done .number) × (u ≡ entry-adds s t .done .state) × (z .0 ≡ entry-adds s t .tables)
+
+pub entry-follows : (s : Nows adding-entry) (z : Ends adding-entry) (t : AnchorsCacheTransaction) (r : Done) → entry-core-says s z t r → entry-says s z t (r .number) (r .state)
+entry-follows s z t r e = (ap (λ (d : Done). d .number) (e .0), ap (λ (d : Done). d .state) (e .0), e .1)
 
 -- ---- the reads: the output, which changes, the tables, the message area and the routes, and the mode or the settings
 abbrev pub reading-all : List (Param 4)

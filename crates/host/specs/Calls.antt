@@ -11,8 +11,9 @@ use Rattle.anchors_cache.specs.declared.Done.{Done}
 use Rattle.anchors_cache.specs.declared.FlagAnswer.{FlagAnswer}
 use Rattle.anchors_cache.specs.declared.Popped.{Popped}
 use Rattle.anchors_cache.specs.declared.Trimmed.{Trimmed}
-use Rattle.anchors_cache.specs.Calls.{onZero, rowFor, addNumber, addCall}
-use Rattle.anchors_cache.specs.Windows.{addedTables, addedArea}
+use Rattle.anchors_cache.specs.Calls.{onZero, rowFor, addNumber, addCall, infoWith, addInfoNumber, addInfoCall}
+use Rattle.anchors_cache.specs.Tables.{infoRow}
+use Rattle.anchors_cache.specs.Windows.{historyAdded, addedTables, addedArea}
 use Rattle.range_reader.specs.declared.ReadExternals.{ReadExternals}
 use Rattle.range_reader.specs.Calls.{ReadResult, readCall}
 use Rattle.reader_rules.specs.declared.ExternalsReader.{ExternalsReader}
@@ -20,6 +21,7 @@ use Rattle.externals_reader.specs.declared.ReaderDone.{ReaderDone}
 use Rattle.externals_reader.specs.declared.ReadIntoBuffers.{ReadIntoBuffers}
 use Rattle.externals_reader.specs.Calls.{ReadAllResult, handedIn, newCall, setLimitsCall, readAllCall}
 use Rattle.host.specs.declared.AnchorPopped.{AnchorPopped}
+use Rattle.host.specs.declared.HistoryEntry.{HistoryEntry}
 use Rattle.host.specs.declared.InfoTrimmed.{InfoTrimmed}
 use Rattle.host.specs.declared.PartitionShown.{PartitionShown}
 use Rattle.host.specs.declared.BufferLimits.{BufferLimits}
@@ -53,6 +55,15 @@ addShown tables area anchor ours messages t =
       done = addCall number a (length area) (length messages) tables t;
       tables = onZero number (addedTables a (t .cache) tables) tables;
       area = onZero number (addedArea a messages tables (t .cache) area) area;
+    }
+
+-- and an entry to the history alone
+unfoldable pub entryShown : List ℕ → List ℕ → HistoryEntry → AnchorsCacheTransaction → Added
+entryShown tables area e t =
+    record {
+      done = addInfoCall (length area) tables t;
+      tables = onZero (addInfoNumber (length area) tables t) (historyAdded (infoRow (infoWith (e .info) (e .author))) (t .cache) tables) tables;
+      area = area;
     }
 
 -- ---- whose a message is, and its partition

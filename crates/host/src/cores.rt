@@ -4,12 +4,13 @@ ghost use lib.ListN.{length};
 ghost use Rattle.anchors_cache.specs.Calls.{popCall, trimCall};
 ghost use Rattle.externals_reader.specs.Calls.{resetCall, dropLastCall};
 ghost use Rattle.reader_offsets.specs.Calls.{finalizeCall, retainCall, setFromCall, incrementCall, dropCall, setSkipCall, setProcessedCall, takenCall};
-ghost use Rattle.host.specs.Calls.{popShown, trimShown, addShown, onReader, limitsSet, newShown, readAllShown, readAll, readRangeShown, readRange};
+ghost use Rattle.host.specs.Calls.{popShown, trimShown, addShown, entryShown, onReader, limitsSet, newShown, readAllShown, readAll, readRangeShown, readRange};
 use crate::AllAnswer;
 use crate::AllRead;
 use crate::AnchorPopped;
 use crate::BufferLimits;
 use crate::Externals;
+use crate::HistoryEntry;
 use crate::InfoTrimmed;
 use crate::RangeAndCache;
 use crate::RangeAnswer;
@@ -69,6 +70,20 @@ pub(crate) fn added(
         × (now (area .exit) ≡ addShown (now (tables .entry)) (now (area .entry)) anchor «our_exts_count» (now (messages .entry)) t .area) ⌝ }
 {
     anchors_cache::add(tables, area, t, anchor, our_exts_count, messages)
+}
+
+pub(crate) fn entry_added(
+    tables: &mut [u8],
+    area: &[u8],
+    entry: HistoryEntry,
+    t: AnchorsCacheTransaction,
+) -> Done
+    ensures { λ r. ⌜ (r ≡ entryShown (now (tables .entry)) (now (area .entry)) entry t .done)
+        × (now (tables .exit) ≡ entryShown (now (tables .entry)) (now (area .entry)) entry t .tables) ⌝ }
+{
+    let info = entry.info;
+    let author = entry.author;
+    anchors_cache::add_imported_anchor_info(tables, area, t, info, author)
 }
 
 pub(crate) fn entered(reader: Reader) -> ReaderAfter

@@ -9,7 +9,7 @@ ghost use Rattle.anchors_cache.specs.Calls.{popCall, trimCall, clearCall, openC
 ghost use Rattle.externals_reader.specs.Calls.{resetCall, dropLastCall, partitionIdsCall, nextRangeCall};
 ghost use Rattle.reader_offsets.specs.Calls.{finalizeCall, limitReachedCall, nonZeroOffsetCall, offsetReachedCall, offsetsReachedCall, countCall, hasMessagesCall, notFullyReadCall, readAndCollectedCall, checkReadAndCollectedCall, allCollectedCall, lastOffsetsCall, retainCall, setFromCall, incrementCall, dropCall, setSkipCall, setProcessedCall, takenCall, pendingExternalsCall};
 ghost use Rattle.host.specs.Shapes.{readerOf, anchorAnswer, infoAnswer};
-ghost use Rattle.host.specs.Calls.{popShown, trimShown, addShown, oursShown, partitionShown, onReader, limitsSet, newShown, readAllShown, readAll, readRangeShown, readRange};
+ghost use Rattle.host.specs.Calls.{popShown, trimShown, addShown, entryShown, oursShown, partitionShown, onReader, limitsSet, newShown, readAllShown, readAll, readRangeShown, readRange};
 use anchors_cache::AnchorInfo;
 use anchors_cache::AnchorsCacheTransaction;
 use anchors_cache::CachedAnchor;
@@ -82,6 +82,13 @@ pub struct RangeSettings {
     pub processed: [ProcessedTo; 8],
     pub timeout: Seconds,
     pub to_previous: bool,
+}
+
+// A history entry with its author.
+#[repr(C)]
+pub struct HistoryEntry {
+    pub info: AnchorInfo,
+    pub author: [u8; AUTHOR_BYTES],
 }
 
 #[repr(C)]
@@ -258,6 +265,23 @@ pub extern "C" fn ext_add(
         × (now (area .exit) ≡ addShown (now (tables .entry)) (now (area .entry)) anchor «our_exts_count» (now (messages .entry)) (now (t .entry)) .area) ⌝ }
 {
     let r = cores::added(tables, area, anchor, our_exts_count, messages, *t);
+    *t = r.state;
+    r.number
+}
+
+// An entry to the history alone.
+#[no_mangle]
+pub extern "C" fn ext_add_imported_anchor_info(
+    t: &mut AnchorsCacheTransaction,
+    tables: &mut [u8],
+    area: &[u8],
+    entry: HistoryEntry,
+) -> u8
+    ensures { λ r. ⌜ (r ≡ entryShown (now (tables .entry)) (now (area .entry)) entry (now (t .entry)) .done .number)
+        × (now (t .exit) ≡ entryShown (now (tables .entry)) (now (area .entry)) entry (now (t .entry)) .done .state)
+        × (now (tables .exit) ≡ entryShown (now (tables .entry)) (now (area .entry)) entry (now (t .entry)) .tables) ⌝ }
+{
+    let r = cores::entry_added(tables, area, entry, *t);
     *t = r.state;
     r.number
 }

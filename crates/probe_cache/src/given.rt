@@ -2,18 +2,22 @@
 ghost use mathlib.Core.Path.{_≡_};
 ghost use lib.Dec.{leb};
 ghost use Rattle.rows.specs.Rows.{pick};
-ghost use Rattle.anchors_cache.specs.Calls.{onZero, answer, withCache};
+ghost use lib.ListN.{length};
+ghost use Rattle.anchors_cache.specs.Calls.{onZero, answer, withCache, addInfoCall};
 ghost use Rattle.cache_rules.specs.Rules.{maxHistory};
 use anchors_cache::ANCHOR_BYTES;
+use anchors_cache::AnchorInfo;
 use anchors_cache::AnchorsCache;
 use anchors_cache::AnchorsCacheTransaction;
 use anchors_cache::Done;
 use anchors_cache::HISTORY_BYTES;
 use cache_rules::AREA_BYTES;
+use cache_rules::AUTHOR_BYTES;
 use cache_rules::MAX_ANCHOR_MESSAGES;
 use cache_rules::MAX_ANCHORS;
 use cache_rules::MAX_HISTORY;
 use cache_rules::MAX_MESSAGES;
+use ext_types::ChainTime;
 use rows::Appended;
 
 // Where a window starts after an append.
@@ -66,6 +70,23 @@ pub fn append_info(tables: &mut [u8], t: AnchorsCacheTransaction, p: &[u8]) -> D
         number: 0,
         state: s,
     }
+}
+
+// The call that does so: the payload's fields.
+pub fn add_info(tables: &mut [u8], area: &[u8], t: AnchorsCacheTransaction, p: &[u8]) -> Done
+    ensures { λ r. ⌜ r ≡ addInfoCall (length (now (area .entry))) (now (tables .entry)) t ⌝ }
+{
+    let mut author = [0u8; AUTHOR_BYTES];
+    if p.len() == 52 {
+        rows::copy_in(&mut author, 0, &p[20..52]);
+    }
+    let e = AnchorInfo {
+        id: rows::u32_at(p, 0),
+        ct: ChainTime(rows::u64_at(p, 4)),
+        all_exts_count: rows::u32_at(p, 12),
+        our_exts_count: rows::u32_at(p, 16),
+    };
+    anchors_cache::add_imported_anchor_info(tables, area, t, e, author)
 }
 
 // The messages of the cached anchors.
