@@ -187,7 +187,7 @@ held-entered limits s =
     go (suc n) (r ∷ l) = ap (λ (m : List ExternalsRangeReaderState). rangeEntered r ∷ m) (go n l)
 
 -- ---- the next range
-abbrev lastSeqno : ℕ → List ExternalsRangeReaderState → ℕ
+abbrev pub lastSeqno : ℕ → List ExternalsRangeReaderState → ℕ
 lastSeqno n l = lastOr 0 (λ r. r .seqno) n l
 
 rising : (n low : ℕ) (l : List ExternalsRangeReaderState) → n < length l → soundRangesFrom low (take (suc n) l) ≡ true → low ≤ rangeAt n l .seqno
@@ -224,7 +224,7 @@ a-range-above-the-last-keeps-question-5 n l q e b f = rw (add-one n) (go (ltb n 
 
 module _ (x : Fixed) (r : RangesRead) (w : wantsNext x r ≡ true) where
   -- the last two of its tests
-  wanted : (r .len < openRangesLimit (x .params)) × (lastSeqno (r .len) (r .ranges) < x .«block_seqno»)
+  pub wanted : (r .len < openRangesLimit (x .params)) × (lastSeqno (r .len) (r .ranges) < x .«block_seqno»)
   unfolding wantsNext
   wanted =
       let a = and-true (eqb (r .«so_far» .number) 0) _ w .1 in

@@ -1,4 +1,4 @@
--- What a read of all tells: each sum is at most 1,024 for each range, and its number is 0 or a range's.
+-- What a read of all tells: each sum is at most 1,024 for each of 16 ranges, and its number is 0 or a range's.
 use Prim.Native.Nat.{ℕ, zero, suc, _+_, _-_, _*_, _≤_}
 use mathlib.Core.Path.{_≡_}
 use mathlib.Core.Bool.{true}
@@ -15,7 +15,9 @@ use Rattle.range_rules.specs.Bounds.{AtMost}
 use Rattle.reader_rules.specs.declared.Fixed.{Fixed}
 use Rattle.reader_rules.specs.declared.RangesRead.{RangesRead}
 use Rattle.reader_rules.specs.Each.{each}
+use Rattle.reader_rules.specs.State.{maxRanges, openRangesLimit}
 use Rattle.reader_rules.specs.Rules.{sums, countsAdded, Told, afterTurn, OneRange, wantsNext, withNextRange, rangesRead}
+use Rattle.reader_rules.proofs.Kept.{wanted}
 use Rattle.reader_rules.proofs.Turns.{the-read-of-all-keeps-what-each-range's-read-keeps}
 
 -- ---- the sums
@@ -40,10 +42,15 @@ added-at-most a b k m f g =
 weaker : (k m : ℕ) (c : ReadCounts) → k ≤ m → AtMost k c → AtMost m c
 weaker k m c h a = record { read = λ i. omega (arith, h, a .read i); expired = λ i. omega (arith, h, a .expired i); buffered = λ i. omega (arith, h, a .buffered i) }
 
+-- 16 ranges of at most 1,024 cached messages
+abbrev pub maxSum : ℕ
+maxSum = maxMessages * maxRanges
+
 -- of all ranges but the last k
 record Summed (k : ℕ) (r : RangesRead) : Type 0 where
   few : AtMost (maxMessages * (r .len - k)) (r .«so_far» .counts)
   left : k ≤ r .len
+  slots : r .len ≤ maxRanges
 
 turn-summed : (x : Fixed) (k i : ℕ) (r : RangesRead) (a : Told) → AtMost maxMessages (a .counts) → Summed (suc k) r → Summed k (afterTurn x i r a)
 unfolding afterTurn
@@ -52,26 +59,31 @@ turn-summed x k i r a f h =
     let e : maxMessages * (r .len - suc k) + maxMessages ≤ maxMessages * (r .len - k) = omega (arith, h .left) in
     let l : k ≤ r .len = omega (arith, h .left) in
     pick-both (Summed k) (eqb (a .number) 0) _ _
-    (record { few = weaker _ _ (countsAdded c (a .counts)) e (added-at-most c (a .counts) (maxMessages * (r .len - suc k)) maxMessages (h .few) f); left = l })
-    (record { few = weaker _ _ c (omega (arith, e)) (h .few); left = l })
+    (record { few = weaker _ _ (countsAdded c (a .counts)) e (added-at-most c (a .counts) (maxMessages * (r .len - suc k)) maxMessages (h .few) f); left = l; slots = h .slots })
+    (record { few = weaker _ _ c (omega (arith, e)) (h .few); left = l; slots = h .slots })
 
--- for each range that is then held
-pub each-sum-is-at-most-1024-for-each-range : (one : OneRange) (x : Fixed) → ((pops : ℕ) (mode : ReadNextExternalsMode) (range : ExternalsRangeReaderState) (room : ℕ) → AtMost maxMessages (one pops mode range room .value .counts))
-    → (r : RangesRead) → AtMost 0 (r .«so_far» .counts) → AtMost (maxMessages * rangesRead one x r .value .len) (rangesRead one x r .value .«so_far» .counts)
+-- the next range is one of the 16: it is appended below the open-ranges limit
+pub each-sum-is-at-most-1024-for-each-of-16-ranges : (one : OneRange) (x : Fixed) → openRangesLimit (x .params) ≤ maxRanges
+    → ((pops : ℕ) (mode : ReadNextExternalsMode) (range : ExternalsRangeReaderState) (room : ℕ) → AtMost maxMessages (one pops mode range room .value .counts))
+    → (r : RangesRead) → r .len ≤ maxRanges → AtMost 0 (r .«so_far» .counts) → AtMost maxSum (rangesRead one x r .value .«so_far» .counts)
 unfolding withNextRange
-each-sum-is-at-most-1024-for-each-range one x fits r h =
+each-sum-is-at-most-1024-for-each-of-16-ranges one x limit fits r slots h =
+    let q = rangesRead one x r .value in
     let s =
-    the-read-of-all-keeps-what-each-range's-read-keeps one x Summed
-    (λ k q g. record { few = weaker (maxMessages * (q .len - suc k)) (maxMessages * (q .len - k)) (q .«so_far» .counts) (omega arith) (g .few); left = omega (arith, g .left) })
-    (λ k q g. record { few = g .few; left = g .left })
-    (λ k i q g. turn-summed x k i q _ (fits _ _ _ _) g)
+    the-read-of-all-keeps-what-each-range's-read-keeps one x Summed passed
+    (λ k p g. record { few = g .few; left = g .left; slots = g .slots })
+    (λ k i p g. turn-summed x k i p _ (fits _ _ _ _) g)
     next
     r
-    (record { few = weaker 0 (maxMessages * (r .len - r .len)) (r .«so_far» .counts) (omega arith) h; left = omega arith }) in
-    weaker (maxMessages * (rangesRead one x r .value .len - 0)) (maxMessages * rangesRead one x r .value .len) (rangesRead one x r .value .«so_far» .counts) (omega arith) (s .few)
+    (record { few = weaker 0 (maxMessages * (r .len - r .len)) (r .«so_far» .counts) (omega arith) h; left = omega arith; slots = slots }) in
+    weaker (maxMessages * (q .len - 0)) maxSum (q .«so_far» .counts) (omega (arith, s .slots)) (s .few)
   where
-    next : (q : RangesRead) → wantsNext x q ≡ true → Summed 0 q → Summed 1 (withNextRange x q)
-    next q w g = record { few = weaker (maxMessages * (q .len - 0)) (maxMessages * (q .len + 1 - 1)) (q .«so_far» .counts) (omega arith) (g .few); left = omega arith }
+    passed : (k : ℕ) (p : RangesRead) → Summed (suc k) p → Summed k p
+    passed k p g = record { few = weaker (maxMessages * (p .len - suc k)) (maxMessages * (p .len - k)) (p .«so_far» .counts) (omega arith) (g .few); left = omega (arith, g .left); slots = g .slots }
+
+    next : (p : RangesRead) → wantsNext x p ≡ true → Summed 0 p → Summed 1 (withNextRange x p)
+    next p w g =
+        record { few = weaker (maxMessages * (p .len - 0)) (maxMessages * (p .len + 1 - 1)) (p .«so_far» .counts) (omega arith) (g .few); left = omega arith; slots = omega (arith, limit, wanted x p w .0) }
 
 -- ---- the number
 module _ (N : ℕ → Type 0) (none : N 0) (x : Fixed) where
