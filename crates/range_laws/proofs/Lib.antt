@@ -1,3 +1,4 @@
 pub mod Entered
 pub mod Laws
 pub mod Conservation
+pub mod Kept

@@ -5,3 +5,4 @@ pub mod Positions
 pub mod Conservation
 pub mod Eleven
 pub mod Refusals
+pub mod Kept

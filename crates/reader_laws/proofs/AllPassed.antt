@@ -56,19 +56,19 @@ module _ (tables area : List ℕ) (t : AnchorsCacheTransaction) (h : HandedAll) 
       go false e z = z
 
   -- what the questions said
-  record Asked : Type 0 where
-    open-now : t .active ≡ true
-    big : areaBytes ≤ length area
-    cache-ok : validCache (placesIn (length area)) tables (t .cache) ≡ true
-    undo-ok : validCache (placesIn (length area)) tables (t .undo) ≡ true
-    routes-ok : routesNumber (h .routes) ≡ 0
-    accepted : refusal (length area) tables t ≡ 0
+  pub record Asked : Type 0 where
+    pub open-now : t .active ≡ true
+    pub big : areaBytes ≤ length area
+    pub cache-ok : validCache (placesIn (length area)) tables (t .cache) ≡ true
+    pub undo-ok : validCache (placesIn (length area)) tables (t .undo) ≡ true
+    pub routes-ok : routesNumber (h .routes) ≡ 0
+    pub accepted : refusal (length area) tables t ≡ 0
 
   active-of : (b : Bool) → ask 9 b 0 ≡ 0 → b ≡ true
   active-of true e = refl
   active-of false e = absurd (omega arith)
 
-  answered-yes : asked ≡ 0 → Asked
+  pub answered-yes : askedOfRead tables area t (h .routes) (h .reader) ≡ 0 → Asked
   unfolding askedOfRead valid
   answered-yes z =
       let p2 = first-zero _ _ (first-zero _ _ z .1) in

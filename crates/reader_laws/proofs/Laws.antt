@@ -1,8 +1,8 @@
 -- What the read of all ranges does and does not do, each law named as a sentence.
 use Prim.Native.Nat.{ℕ, zero, suc, _<_}
 use mathlib.Core.Path.{_≡_, refl, sym, ap, _∙_}
-use mathlib.Core.Bool.{Bool, true, false, not, _&&_, _||_}
-use mathlib.Core.List.{List, [], _∷_, _++_, map}
+use mathlib.Core.Bool.{Bool, true, false}
+use mathlib.Core.List.{List, [], _∷_, _++_}
 use mathlib.Core.Logic.{_⊎_, inl, inr}
 use native.Mathlib.Omega.{arith}
 use lib.Dec.{leb, eqb, ltb}
@@ -12,7 +12,7 @@ use Rattle.rows.proofs.Laws.{pick-no, pick-both}
 use borrow.Author.Tests.{ne-eqb}
 use Rattle.shard_ident.specs.Shard.{shardNumber}
 use Rattle.router.specs.Router.{routesNumber}
-use Rattle.messages_buffer.specs.Fullness.{every, countFits, partitionsNumber, limitedNumber, firstNo}
+use Rattle.messages_buffer.specs.Fullness.{every, partitionsNumber, limitedNumber, firstNo}
 use Rattle.anchors_cache.specs.declared.AnchorsCacheTransaction.{AnchorsCacheTransaction}
 use Rattle.anchors_cache.specs.declared.Done.{Done}
 use Rattle.cache_rules.specs.Rules.{Anchor, Cache, Info, ask, lastOf, dropStale, popFrom, popFront, areaBytes}
@@ -26,16 +26,16 @@ use Rattle.range_rules.specs.declared.ReadNextExternalsMode.{ReadNextExternalsM
 use Rattle.range_rules.specs.Rules.{Outcome}
 use Rattle.messages_buffer.proofs.Laws.{first-yes, first-alone}
 use Rattle.range_laws.proofs.Laws as one-range
-use Rattle.reader_rules.specs.declared.ExternalsPartitionReaderState.{ExternalsPartitionReaderState}
 use Rattle.reader_rules.specs.declared.ExternalsReader.{ExternalsReader}
 use Rattle.reader_rules.specs.declared.GetNextMessageGroupMode.{GetNextMessageGroupMode}
 use Rattle.reader_rules.specs.declared.Fixed.{Fixed}
 use Rattle.reader_rules.specs.declared.RangesRead.{RangesRead}
 use Rattle.reader_rules.specs.State.{noRange, soundRangesFrom, stateNumber, settledNumber}
-use Rattle.reader_rules.specs.Rules.{OneRange, nextPartition, nextRange, rangesRead, fixedOf, atEntry}
+use Rattle.reader_rules.specs.Rules.{OneRange, nextRange, rangesRead, fixedOf, atEntry}
 use Rattle.externals_reader.specs.Calls.{askedOfRead, toldBy, windowRead, importedIn, allRead, ReadAllResult, unchanged, allResult, readAllCall}
 use Rattle.externals_reader.proofs.Sound.{sound-parts, sound-counts}
 use Rattle.reader_laws.specs.AllRanges.{HandedAll, importedOf, bookFixed, rangeSteps, bookRange, bookAllRead}
+use Rattle.reader_rules.proofs.Kept.{next-fits}
 use Rattle.reader_rules.proofs.Turns.{two-ways-to-read-a-range-that-agree-read-all-alike, the-read-of-all-looks-only-at-the-ranges-it-reads}
 
 -- ---- what a call changes
@@ -139,16 +139,6 @@ abbrev pub unaskedRange : List ℕ → Fixed → Cache → OneRange
 unaskedRange routes x v pops mode range room =
     let s = rangeSteps routes x (popTimes pops v) mode range room in
     toldBy (firstNo (limitedNumber (x .limits) (range .«by_partitions») ∷ s .value .walk .number ∷ [])) closedTransaction range s
-
--- the next range's buffers are empty
-next-fits : (l : List ExternalsPartitionReaderState) → every countFits (map nextPartition l) ≡ true
-unfolding every
-next-fits [] = refl
-next-fits (p ∷ l) = go (p .present) (every countFits (map nextPartition l)) (next-fits l)
-  where
-    go : (b c : Bool) → c ≡ true → ((not b || true) && c) ≡ true
-    go true c e = e
-    go false c e = e
 
 held-at : (n : ℕ) (l : List ExternalsRangeReaderState) (j : ℕ) → j < n → (getD l j noRange ≡ noRange) ⊎ ((j < length (take n l)) × (getD (take n l) j noRange ≡ getD l j noRange))
 held-at zero l j h = absurd (omega arith)

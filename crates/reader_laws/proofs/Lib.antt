@@ -4,3 +4,5 @@ pub mod Laws
 pub mod Conservation
 pub mod TableOfEight
 pub mod AllPassed
+pub mod AllKept
+pub mod ReaderKept

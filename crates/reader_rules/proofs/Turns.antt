@@ -1,7 +1,8 @@
 -- The turns do not look at how one range is read: two ways that answer the same of the ranges that are read give the
--- same read of all.
+-- same read of all, and what each range's read keeps, the read of all keeps.
 use Prim.Native.Nat.{ℕ, zero, suc, _+_, _-_, _<_, _≤_}
 use mathlib.Core.Path.{_≡_, refl, ap, _∙_}
+use mathlib.Core.Bool.{Bool, true, false}
 use mathlib.Core.List.{List, [], _∷_}
 use native.Mathlib.Omega.{arith}
 use lib.Dec.{eqb}
@@ -74,3 +75,41 @@ module _ (one two : OneRange) (x : Fixed) where
       → (r : RangesRead) → rangesRead one x r ≡ rangesRead two x r
   two-ways-to-read-a-range-that-agree-read-all-alike same r =
       the-read-of-all-looks-only-at-the-ranges-it-reads (λ q. Unit) (λ pops mode range room q. same pops mode range room) (λ q. tt) tt r (λ j a. tt)
+
+-- ---- what each range's read keeps
+-- P of the ranges that have not had their turn yet, and of what those before came to
+module _ (one : OneRange) (x : Fixed) (P : ℕ → RangesRead → Type 0) (passed : (k : ℕ) (r : RangesRead) → P (suc k) r → P k r)
+    (skipped : (k : ℕ) (r : RangesRead) → P k r → P k (readOf (notAllRead (r .«so_far»)) (r .ranges) (r .len)))
+    (read : (k i : ℕ) (r : RangesRead) → P (suc k) r → (let range = getD (r .ranges) i noRange in P k (afterTurn x i r (one (r .«so_far» .pops) (modeFor x (range .seqno)) range (x .room - r .«so_far» .used) .value))))
+    (next : (r : RangesRead) → wantsNext x r ≡ true → P 0 r → P 1 (withNextRange x r)) where
+  turn-keeps : (k i : ℕ) (r : RangesRead) → P (suc k) r → P k (turn one x i r .value)
+  unfolding turn
+  turn-keeps k i r h =
+      let Q : Outcome RangesRead → Type 0 = λ s. P k (s .value) in
+      let range = getD (r .ranges) i noRange in
+      pick-both Q (range .«fully_read») _ _ (passed k r h) (pick-both Q (isSkipped x range) _ _ (skipped k r (passed k r h)) (read k i r h))
+
+  all-passed : (k : ℕ) (r : RangesRead) → P k r → P 0 r
+  all-passed zero r h = h
+  all-passed (suc k) r h = all-passed k r (passed k r h)
+
+  turns-keep : (n i : ℕ) (s : Outcome RangesRead) → P n (s .value) → P 0 (turns one x n i s .value)
+  unfolding turns
+  turns-keep zero i s h = h
+  turns-keep (suc n) i s h =
+      let Q : Outcome RangesRead → Type 0 = λ q. P 0 (q .value) in
+      pick-both Q (isOver (s .value)) _ _ (all-passed (suc n) (s .value) h) (turns-keep n (i + 1) (followed s (turn one x i (s .value))) (turn-keeps n i (s .value) h))
+
+  pub the-read-of-all-keeps-what-each-range's-read-keeps : (r : RangesRead) → P (r .len) r → P 0 (rangesRead one x r .value)
+  unfolding rangesRead
+  the-read-of-all-keeps-what-each-range's-read-keeps r h = go (wantsNext x (s .value)) refl
+    where
+      s : Outcome RangesRead
+      s = turns one x (r .len) 0 (silent r)
+
+      kept : P 0 (s .value)
+      kept = turns-keep (r .len) 0 (silent r) h
+
+      go : (b : Bool) → wantsNext x (s .value) ≡ b → P 0 (pick b (followed s (turn one x (s .value .len) (withNextRange x (s .value)))) s .value)
+      go true e = turn-keeps 0 (s .value .len) (withNextRange x (s .value)) (next (s .value) e kept)
+      go false e = kept
