@@ -130,6 +130,11 @@ pub total-none : (first k : ℕ) (l : List ℕ) → k ≤ 0 → total (anchors f
 unfolding total
 total-none first k l p = rw (anchors-none first k l p)
 
+pub length-messages : (bytes : List ℕ) (l : List Row) → length (withMessages bytes l) ≡ length l
+unfolding withMessages
+length-messages bytes [] = refl
+length-messages bytes (a ∷ l) = ap suc (length-messages (drop (33 * a .count) bytes) l)
+
 -- ---- the messages of a window
 pub rows-of-messages : (bytes : List ℕ) (l : List Row) → map rowOf (withMessages bytes l) ≡ l
 unfolding withMessages

@@ -13,7 +13,7 @@ use mir.Syntax.{w8}
 use mir.Val.{SFits}
 use borrow.Author.Tests.{eq-eqb, ne-eqb, eqb-true, eqb-false, ltb-true, ltb-false, lt-ltb, le-ltb, lt-leb, le-leb}
 use Rattle.rows.specs.Rows.{pick, sameBytes, startsWith, rows}
-use Rattle.rows.proofs.Laws.{pick-yes, pick-no, never}
+use Rattle.rows.proofs.Laws.{pick-yes, pick-no, never, no-later}
 use Rattle.shard_ident.specs.Shard.{signedByte, equalℤ}
 use Rattle.router.specs.Router.{maxRoutes, routePartition, routesNumber, firstPartition, unlessRefused, getPartition, partitionOf as rowsPartition}
 use Rattle.by_reference.specs.Search.{sameRoute, firstPartitionIn, listedIn, takesOne, takesAll, recordsNumber, getPartitionIn, nothingWalked, takesRoute, withRoute, refusedWalk, walkedOn, walkedOver, walkAnswer, routeOf, routesOf, byteOf, routeRow, rowsOf}
@@ -46,10 +46,6 @@ module _ (w : ℤ) (a : List ℕ) (l : List Route) (n i : ℕ) where
   listed-end h = ap (listedIn w a) (drop-of-length-le (take n l) {i = i} (omega (arith, h, length-take n l)))
 
 -- ---- question 3 of one record more
-and-no : (b : Bool) → false ≡ b && false
-and-no true = refl
-and-no false = refl
-
 module _ (w : Walk) (r : Route) where
   pub not-sound : w .sound ≡ false → false ≡ takesRoute w r
   unfolding takesRoute
@@ -57,11 +53,11 @@ module _ (w : Walk) (r : Route) where
 
   pub too-many : maxRoutes ≤ w .len → false ≡ takesRoute w r
   unfolding takesRoute
-  too-many h = rw (le-ltb (w .len) maxRoutes h) (and-no (w .sound))
+  too-many h = rw (le-ltb (w .len) maxRoutes h) (no-later (w .sound) false refl)
 
   pub too-high : 7 < r .partition → false ≡ takesRoute w r
   unfolding takesRoute
-  too-high h = rw (lt-leb (r .partition) 7 h) (and-no (w .sound) ∙ ap (λ (b : Bool). w .sound && b) (and-no (ltb (w .len) maxRoutes)))
+  too-high h = rw (lt-leb (r .partition) 7 h) (no-later (w .sound) false refl ∙ ap (λ (b : Bool). w .sound && b) (no-later (ltb (w .len) maxRoutes) false refl))
 
   pub asked-of-one : w .sound ≡ true → w .len < maxRoutes → r .partition ≤ 7 → not (listedIn (r .workchain) (r .account) (take (w .len) (w .routes))) ≡ takesRoute w r
   unfolding takesRoute

@@ -14,11 +14,11 @@ use Rattle.cache_rules.specs.Rules.{Cache, rowOf, popFront, trim, total, lastOf
 use Rattle.anchors_cache.specs.Tables.{anchorsOf, view}
 use Rattle.anchors_cache.specs.Windows.{poppedTimes, usedBy}
 use Rattle.anchors_cache.specs.Calls.{placesIn, refusal, refusalAt, onZero, answer, withCache, addNumber, addCall, addInfoNumber, addInfoCall, popAnswer, popCall, popsCall, trimAnswer, trimCall, clearCall, openCall, commitCall, rollbackCall, closeCall}
-use Rattle.anchors_cache.proofs.Laws.{anchors-length, infos-length, rows-of-messages}
+use Rattle.anchors_cache.proofs.Laws.{anchors-length, infos-length, rows-of-messages, length-messages}
 use Rattle.anchors_cache.proofs.Asked.{Parts, valid-parts, refusal-zero, at-asked, at-refused, add-asked, info-asked}
 use Rattle.cache_laws.specs.Book.{Book, begin, finish, holds, bookRefusal, bookAdd, bookAddInfo, popTimes, Area, same, short, lend, Call, Reading, reading, enter, entered, bookNumbers, performed, numbers}
 use Rattle.cache_laws.specs.Entries.{popping, poppingMany, trimming, committing, rollingBack, closing, opening, clearing, adding, addingInfo}
-use Rattle.cache_laws.proofs.Views.{length-messages, view-popped, view-popped-times, view-trimmed}
+use Rattle.cache_laws.proofs.Views.{view-popped, view-popped-times, view-trimmed}
 use Rattle.cache_laws.proofs.Kept.{whole, popped-parts, times-parts, trimmed-parts, valid-of, holds-view}
 
 -- the transaction stands for the book

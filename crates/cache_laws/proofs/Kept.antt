@@ -19,7 +19,7 @@ use Rattle.anchors_cache.specs.Tables.{anchorRow, infoRow, anchors, anchorAt, a
 use Rattle.anchors_cache.specs.Windows.{keptLen, poppedCache, poppedTimes, trimmedCache, noCache, inHistory, historyAdded, inCache, anchorAdded, infoFor, usedBy, addedCache, addedTables, Sound, Room}
 use Rattle.anchors_cache.specs.Calls.{placesIn, validCache, valid, refusal, refusalAt, answer, onZero, withCache, rowFor, addNumber, addInfoNumber, popAnswer, popCall, popsCall, trimAnswer, trimCall, clearCall, openCall, commitCall, rollbackCall, closeCall}
 use Rattle.anchors_cache.proofs.Laws.{anchors-cons, anchors-take, anchors-length, infos-length, total-more, popped-empty, fresh-le, kept-le, history-kept-le, length-anchor, rows-of-messages}
-use Rattle.anchors_cache.proofs.Asked.{Parts, parts, valid-parts, at-asked, refusal-zero, refusal-parts, add-refusal, add-yes, add-asks, info-refusal, info-yes, size-of}
+use Rattle.anchors_cache.proofs.Asked.{Parts, parts, valid-parts, at-asked, refusal-zero, refusal-parts, add-refusal, add-yes, add-asks, info-refusal, info-yes, size-of, same-pending}
 use Rattle.cache_laws.specs.Book.{holds}
 use Rattle.cache_laws.proofs.Views.{one-more, nonempty-anchors, total-snoc, Fits, entry-fits, info-sound, anchors-same, anchors-now}
 
@@ -85,11 +85,6 @@ same-refl : (a : Bool) → sameBool a a ≡ true
 same-refl true = refl
 same-refl false = refl
 
-same-true : (a b : Bool) → sameBool a b ≡ true → a ≡ b
-same-true true b e = sym e
-same-true false true e = e
-same-true false false e = refl
-
 -- ---- pop
 module _ (places : ℕ) (tables : List ℕ) where
   popped-some : (c : AnchorsCache) → Parts places tables c → 0 < c .len → Parts places tables (poppedCache tables c)
@@ -142,7 +137,7 @@ module _ (places : ℕ) (tables : List ℕ) where
         sound = rw w (sound-take k 0 _ (p .sound));
         few = rw w (omega (arith, p .few));
         in-area = rw w (omega (arith, p .in-area));
-        pend = rw (pick-pend (ltb k (c .len)) k (c .len) (c .pending) refl q (same-true _ _ (p .pend))) (same-refl (ltb 0 k));
+        pend = rw (pick-pend (ltb k (c .len)) k (c .len) (c .pending) refl q (same-pending _ _ (p .pend))) (same-refl (ltb 0 k));
       }
 
   -- ---- clear

@@ -17,15 +17,10 @@ use Rattle.cache_rules.specs.Rules.{Info, Anchor, Cache, Row, withRow, dropStal
 use Rattle.anchors_cache.specs.Tables.{anchorRow, infoRow, anchorOf, infoOf, anchors, infos, anchorAt, withMessages, view, anchorsOf, historyOf, historyBytes, anchorBytes}
 use Rattle.anchors_cache.specs.Windows.{rowTime, poppedCache, poppedTimes, trimmedCache, noCache, inHistory, historyAdded, inCache, anchorAdded, messagesAdded, infoFor, usedBy, addedCache, addedTables, addedArea, Sound, Room}
 use Rattle.cache_rules.proofs.Lists.{stale-le}
-use Rattle.anchors_cache.proofs.Laws.{map-append, anchors-cons, anchors-length, infos-length, infos-end, fresh-le, kept-window, kept-history, length-info, length-anchor}
+use Rattle.anchors_cache.proofs.Laws.{map-append, anchors-cons, anchors-length, infos-length, infos-end, fresh-le, kept-window, kept-history, length-info, length-anchor, length-messages}
 use Rattle.cache_laws.specs.Book.{popTimes}
 
 -- ---- the messages of a window
-pub length-messages : (bytes : List ℕ) (l : List Row) → length (withMessages bytes l) ≡ length l
-unfolding withMessages
-length-messages bytes [] = refl
-length-messages bytes (a ∷ l) = ap suc (length-messages (drop (33 * a .count) bytes) l)
-
 nonempty-messages : (bytes : List ℕ) (l : List Row) → nonempty (withMessages bytes l) ≡ nonempty l
 unfolding withMessages
 nonempty-messages bytes [] = refl

@@ -9,7 +9,7 @@ use lib.Dec.{leb}
 use lib.ListN.{length, getD, take}
 use borrow.Author.Tests.{eqb-true, leb-true, lt-leb, le-leb}
 use Rattle.rows.specs.Rows.{pick, part}
-use Rattle.rows.proofs.Laws.{part-cons, and-true, pick-yes, pick-no}
+use Rattle.rows.proofs.Laws.{part-cons, and-true, pick-yes, pick-no, no-later}
 use Rattle.reader_rules.specs.declared.ExternalsReaderState.{ExternalsReaderState}
 use Rattle.reader_rules.specs.declared.ExternalsReader.{ExternalsReader}
 use Rattle.reader_rules.specs.State.{settledNumber, rangesNumber, noRange, heldRanges, rangeSound, soundRangesFrom, stateNumber, settingsNumber, maxRanges, maxOpenRanges}
@@ -48,11 +48,7 @@ module _ (ranges : List ExternalsRangeReaderState) (len : ℕ) where
   too-many-ranges h = rw (lt-leb len maxRanges h)
 
   pub unsound-ranges : soundRangesFrom 0 (take len ranges) ≡ false → 5 ≡ rangesNumber ranges len
-  unsound-ranges e = sym (pick-no _ _ _ (ap (λ (b : Bool). leb len maxRanges && b) e ∙ and-no (leb len maxRanges)))
-    where
-      and-no : (b : Bool) → (b && false) ≡ false
-      and-no true = refl
-      and-no false = refl
+  unsound-ranges e = sym (pick-no _ _ _ (sym (no-later (leb len maxRanges) _ e)))
 
   pub sound-table : len ≤ maxRanges → soundRangesFrom 0 (take len ranges) ≡ true → 0 ≡ rangesNumber ranges len
   sound-table h e = sym (pick-yes _ _ _ (ap (λ (b : Bool). b && soundRangesFrom 0 (take len ranges)) (le-leb len maxRanges h) ∙ e))

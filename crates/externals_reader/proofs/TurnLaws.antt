@@ -9,6 +9,7 @@ use lib.ListN.{length, getD, set, take, drop, replicate, length-replicate, lengt
 use lib.Seq.{sets, set-set, getD-set-same, take-all, length-take-le, length-sets}
 use borrow.Rule.Slice.PartMut.{putMid, midOf, put-same}
 use borrow.Author.Tests.{eq-eqb, ne-eqb, eqb-false}
+use Rattle.reader_rules.proofs.Sums.{added-at-most, weaker}
 use Rattle.rows.specs.Rows.{pick}
 use Rattle.rows.proofs.Laws.{pick-yes, pick-no, sets-append}
 use Rattle.messages_buffer.specs.Fullness.{firstNo}
@@ -253,16 +254,6 @@ module _ (tables area : List ℕ) (t : AnchorsCacheTransaction) (routes : List �
       bytes false e = rw e (put-same (s .used) (length out - s .used) out)
 
 -- ---- bounds
-each-at-most : (n : ℕ) (f : ℕ → ℕ) (k : ℕ) → ((j : ℕ) → f j ≤ k) → (i : ℕ) → getD (each n f) i 0 ≤ k
-unfolding each
-each-at-most zero f k h i = omega arith
-each-at-most (suc n) f k h zero = h 0
-each-at-most (suc n) f k h (suc i) = each-at-most n (λ j. f (suc j)) k (λ j. h (suc j)) i
-
-sums-at-most : (a b : List ℕ) (k m n : ℕ) → ((j : ℕ) → getD a j 0 ≤ k) → ((j : ℕ) → getD b j 0 ≤ m) → k + m ≤ n → (i : ℕ) → getD (sums a b) i 0 ≤ n
-unfolding sums
-sums-at-most a b k m n f g h = each-at-most 8 (λ j. getD a j 0 + getD b j 0) n (λ j. omega (arith, f j, g j, h))
-
 -- what one range's read keeps within, and that it tells the bytes of its entries
 pub record Fits (room : ℕ) (s : Outcome Told) : Type 0 where
   pub counts : AtMost maxMessages (s .value .counts)
@@ -302,7 +293,7 @@ module _ (one : OneRange) (fits : (pops : ℕ) (mode : ReadNextExternalsMode) (r
     pub len : s .value .len ≡ r .len
 
   more : (k : ℕ) → After k (x .room) r → After (k + 1) (x .room) r
-  more k a = record { few = record { read = λ j. omega (arith, a .few .read j); expired = λ j. omega (arith, a .few .expired j); buffered = λ j. omega (arith, a .few .buffered j) }; pops = omega (arith, a .pops); used = a .used }
+  more k a = record { few = weaker (maxMessages * k) (maxMessages * (k + 1)) _ (omega arith) (a .few); pops = omega (arith, a .pops); used = a .used }
 
   turn-added : (k : ℕ) → After k (x .room) r → (s : Outcome Told) → Fits (x .room - r .«so_far» .used) s → Kept (k + 1) (record { value = afterTurn x i r (s .value); entries = s .entries })
   unfolding afterTurn
@@ -312,11 +303,7 @@ module _ (one : OneRange) (fits : (pops : ℕ) (mode : ReadNextExternalsMode) (r
       go true e =
           record {
             after = record {
-              few = record {
-                read = sums-at-most (r .«so_far» .counts .read) (s .value .counts .read) (maxMessages * k) maxMessages (maxMessages * (k + 1)) (a .few .read) (f .counts .read) (omega arith);
-                expired = sums-at-most (r .«so_far» .counts .expired) (s .value .counts .expired) (maxMessages * k) maxMessages (maxMessages * (k + 1)) (a .few .expired) (f .counts .expired) (omega arith);
-                buffered = sums-at-most (r .«so_far» .counts .buffered) (s .value .counts .buffered) (maxMessages * k) maxMessages (maxMessages * (k + 1)) (a .few .buffered) (f .counts .buffered) (omega arith);
-              };
+              few = weaker (maxMessages * k + maxMessages) (maxMessages * (k + 1)) _ (omega arith) (added-at-most (r .«so_far» .counts) (s .value .counts) (maxMessages * k) maxMessages (a .few) (f .counts));
               pops = omega (arith, a .pops, f .pops);
               used = omega (arith, a .used, f .used);
             };

@@ -10,7 +10,7 @@ use lib.ListN.{length, getD, drop, set, drop-of-length-le}
 use lib.Seq.{drop-cons}
 use borrow.Author.Tests.{ne-eqb, not-true, not-false, leb-true, leb-false, le-leb}
 use Rattle.rows.specs.Rows.{pick}
-use Rattle.rows.proofs.Laws.{and-true, pick-yes, pick-no}
+use Rattle.rows.proofs.Laws.{and-true, pick-yes, pick-no, yes-later, or-later}
 use Rattle.messages_buffer.specs.declared.ExternalsPartitionRangeReaderState.{ExternalsPartitionRangeReaderState}
 use Rattle.messages_buffer.specs.Fullness.{bufferCap, noLimit, noPartition, noBuffer, oneMore, limitFits, countFits, hasLimit, every, Buffer, buffers, hasRoom, limited, isFull, fullPartition, rangeFull, limitsNumber, partitionsNumber, limitedNumber, firstNo, fillNumber, fillState, allLimited}
 
@@ -45,11 +45,7 @@ each-every f d (x ∷ l) h = rw (h 0 (omega arith)) (each-every f d l (λ i g. h
 every-set : {A : Type 0} (f : A → Bool) (l : List A) (i : ℕ) (x : A) → every f l ≡ true → i < length l → every f (set l i x) ≡ f x
 unfolding every
 every-set f [] i x e h = absurd (omega arith)
-every-set f (y ∷ l) zero x e h = rw (and-true (f y) (every f l) e .1) (and-yes (f x))
-  where
-    and-yes : (b : Bool) → (b && true) ≡ b
-    and-yes true = refl
-    and-yes false = refl
+every-set f (y ∷ l) zero x e h = rw (and-true (f y) (every f l) e .1) (sym (yes-later (f x) true refl))
 every-set f (y ∷ l) (suc i) x e h = rw (and-true (f y) (every f l) e .0) (every-set f l i x (and-true (f y) (every f l) e .1) (omega arith))
 
 -- ---- limits beside records
@@ -202,10 +198,6 @@ or-left : (a b : Bool) → (a || b) ≡ true → a ≡ false → b ≡ true
 or-left true b e h = absurd (let z : _≡_ {A = ℕ} 0 1 = cc in omega arith)
 or-left false b e h = e
 
-or-yes : (a : Bool) → (a || true) ≡ true
-or-yes true = refl
-or-yes false = refl
-
 module _ (ps : List ExternalsPartitionRangeReaderState) (e : partitionsNumber ps ≡ 0) (i : ℕ) (h : i < length ps) where
   counts : every countFits ps ≡ true
   unfolding partitionsNumber
@@ -216,7 +208,7 @@ module _ (ps : List ExternalsPartitionRangeReaderState) (e : partitionsNumber ps
 
   pub counts-kept : (r : ExternalsPartitionRangeReaderState) → r .count ≤ bufferCap → partitionsNumber (set ps i r) ≡ 0
   unfolding partitionsNumber
-  counts-kept r g = pick-yes _ _ _ (every-set countFits ps i r counts h ∙ rw (le-leb (r .count) bufferCap g) (or-yes (not (r .present))))
+  counts-kept r g = pick-yes _ _ _ (every-set countFits ps i r counts h ∙ rw (le-leb (r .count) bufferCap g) (or-later (not (r .present)) true refl))
 
 module _ (ls : List ℕ) (ps : List ExternalsPartitionRangeReaderState) (same : length ls ≡ length ps) (e : allLimited ls ps ≡ true) (i : ℕ) (h : i < length ls) where
   limited-at : hasLimit (getD ls i 0) (getD ps i noPartition) ≡ true

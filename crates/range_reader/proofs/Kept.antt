@@ -16,7 +16,7 @@ use Rattle.anchors_cache.specs.declared.AnchorsCacheTransaction.{AnchorsCacheTr
 use Rattle.cache_rules.specs.Rules.{Anchor, Row, total, maxAnchors, maxMessages}
 use Rattle.anchors_cache.specs.Tables.{view, withMessages, anchorsOf}
 use Rattle.anchors_cache.proofs.Asked.{refusal-parts}
-use Rattle.anchors_cache.proofs.Laws.{anchors-length}
+use Rattle.anchors_cache.proofs.Laws.{anchors-length, length-messages}
 use Rattle.range_rules.specs.declared.Context.{Context}
 use Rattle.range_rules.specs.declared.RangeRead.{RangeRead}
 use Rattle.range_rules.specs.declared.ExternalsRangeReaderState.{ExternalsRangeReaderState}
@@ -54,11 +54,6 @@ unfolding withMessages total messagesIn
 total-messages bytes [] = refl
 total-messages bytes (a ∷ l) = rw (rows-length 33 (a .count) bytes, total-messages (drop (33 * a .count) bytes) l)
 
-anchors-long : (bytes : List ℕ) (l : List Row) → length (withMessages bytes l) ≡ length l
-unfolding withMessages
-anchors-long bytes [] = refl
-anchors-long bytes (a ∷ l) = ap suc (anchors-long (drop (33 * a .count) bytes) l)
-
 module _ (tables area : List ℕ) (t : AnchorsCacheTransaction) (shard : ShardIdent) (routes limits : List ℕ) (processed : List ProcessedTo) (timeout : Seconds) (mode : ReadNextExternalsMode) (range : ExternalsRangeReaderState) where
   -- at most 1,024 in each count, at most 32 pops, and the used bytes are those of the entries
   pub steps-kept : (room : ℕ) → askedNumber tables area t shard routes limits range ≡ 0
@@ -72,7 +67,7 @@ module _ (tables area : List ℕ) (t : AnchorsCacheTransaction) (shard : ShardId
       let l = withMessages bytes rows in
       let r = entryOf range (rangeFull limits (range .«by_partitions»)) in
       let n : messagesIn l ≡ total rows = total-messages bytes rows in
-      let m : length l ≡ t .cache .len = anchors-long bytes rows ∙ anchors-length (t .cache .first) (t .cache .len) tables in
+      let m : length l ≡ t .cache .len = length-messages bytes rows ∙ anchors-length (t .cache .first) (t .cache .len) tables in
       let f = c .few in
       let i = c .in-anchors in
       let g = anchors-kept x routes l 0 0 0 (silent r) (record { within = record { read = λ i. zeros 8 i 0; expired = λ i. zeros 8 i 0; buffered = λ i. zeros 8 i 0; full = refl }; used-part = refl; few-pops = omega arith }) in

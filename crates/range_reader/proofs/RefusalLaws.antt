@@ -9,7 +9,7 @@ use lib.ListN.{length, getD, drop}
 use lib.Seq.{getD-take, getD-drop}
 use borrow.Author.Tests.{leb-true, leb-false, le-leb, lt-ltb, not-true, not-false}
 use Rattle.rows.specs.Rows.{rows}
-use Rattle.rows.proofs.Laws.{never, told-yes, told-no, rows-cons}
+use Rattle.rows.proofs.Laws.{never, told-yes, told-no, rows-cons, no-here}
 use Rattle.ext_types.specs.declared.ExternalKey.{ExternalKey}
 use Rattle.router.specs.Router.{routeRows, partitionsExist, routesNumber}
 use Rattle.router.proofs.Laws.{exist-next, exist-stop, sound-routes}
@@ -33,9 +33,6 @@ module _ (x : Context) (routes bytes : List ℕ) (l : List Row) (r : RangeRead) 
   no-refusal-on-the-window n u e = no-refusal x routes (withMessages bytes l) r n u (rw (rows-of-messages bytes l) e)
 
 -- ---- the loop over the routes
-no-first : (a b : Bool) → a ≡ false → (a && b) ≡ false
-no-first a b e = rw e
-
 module _ (processed : List ProcessedTo) (partitions : List ExternalsPartitionRangeReaderState) (p : ℕ) where
   pub none-processed : not (getD processed p noProcessed .present) ≡ true → isOpen processed partitions p ≡ false
   none-processed e = rw (not-true (getD processed p noProcessed .present) e)
@@ -55,7 +52,7 @@ pub record OpenTurn (processed : List ProcessedTo) (partitions : List ExternalsP
 module _ (processed : List ProcessedTo) (partitions : List ExternalsPartitionRangeReaderState) (routes : List ℕ) where
   pub none-open : isOpen processed partitions 0 ≡ false → allOpen processed partitions routes ≡ false
   unfolding allOpen
-  none-open e = no-first (isOpen processed partitions 0) (every (routeOpen processed partitions) (routeRows routes)) e
+  none-open e = sym (no-here (isOpen processed partitions 0) (every (routeOpen processed partitions) (routeRows routes)) e)
 
   pub open-start : isOpen processed partitions 0 ≡ true → routesNumber routes ≡ 0 → OpenTurn processed partitions routes 0 (length routes / 34)
   unfolding allOpen
@@ -83,7 +80,7 @@ module _ (processed : List ProcessedTo) (partitions : List ExternalsPartitionRan
           go false e = never (sym (h .exist) ∙ exist-stop routes at left some (leb-false (getD routes (at + 33) 0) 7 e))
 
       pub open-stop : isOpen processed partitions (getD routes (at + 33) 0) ≡ false → allOpen processed partitions routes ≡ false
-      open-stop e = open-step ∙ no-first (isOpen processed partitions (getD routes (at + 33) 0)) (every (routeOpen processed partitions) (rows 34 (left - 1) (drop (at + 34) routes))) e
+      open-stop e = open-step ∙ sym (no-here (isOpen processed partitions (getD routes (at + 33) 0)) (every (routeOpen processed partitions) (rows 34 (left - 1) (drop (at + 34) routes))) e)
 
       pub open-next : isOpen processed partitions (getD routes (at + 33) 0) ≡ true → OpenTurn processed partitions routes (at + 34) (left - 1)
       open-next e = record {
@@ -125,7 +122,7 @@ module _ (position : ExternalKey) (room : ℕ) (tables : List ℕ) (all : List R
     module _ (t : Bool) (te : t ≡ leb (offsetIn position (a .id)) (a .count)) where
       pub fit-stop : not t ≡ true → false ≡ allFit position room all
       unfolding allFit
-      fit-stop e = sym (no-first (every (startsWithin position) all) (leb (entryLen * total all) room) (fit-step ∙ no-first (leb (offsetIn position (a .id)) (a .count)) (every (startsWithin position) (anchors (at + 1) (left - 1) tables)) (told-no t te e)))
+      fit-stop e = no-here (every (startsWithin position) all) (leb (entryLen * total all) room) (fit-step ∙ sym (no-here (leb (offsetIn position (a .id)) (a .count)) (every (startsWithin position) (anchors (at + 1) (left - 1) tables)) (told-no t te e)))
 
       pub fit-next : not t ≡ false → FitTurn position tables all (at + 1) (left - 1) (sum + a .count)
       fit-next e = record {
@@ -138,7 +135,7 @@ module _ (position : ExternalKey) (room : ℕ) (tables : List ℕ) (all : List R
 module _ (x : Context) (partitions : List ExternalsPartitionRangeReaderState) (routes : List ℕ) (l : List Row) (o : Bool) (oe : o ≡ allOpen (x .processed) partitions routes) where
   pub some-closed : not o ≡ true → false ≡ cannotRefuse x partitions routes l
   unfolding cannotRefuse
-  some-closed e = sym (no-first (allOpen (x .processed) partitions routes) (allFit (x .position) (x .room) l) (told-no o oe e))
+  some-closed e = no-here (allOpen (x .processed) partitions routes) (allFit (x .position) (x .room) l) (told-no o oe e)
 
   pub all-decided : not o ≡ false → (f : Bool) → f ≡ allFit (x .position) (x .room) l → f ≡ cannotRefuse x partitions routes l
   unfolding cannotRefuse

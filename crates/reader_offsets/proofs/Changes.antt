@@ -9,7 +9,7 @@ use lib.ListN.{length, length-map, getD, take, drop, set, length-set, length-dro
 use lib.Seq.{take-set-lt, drop-set-lt, drop-cons, getD-drop}
 use borrow.Author.Tests.{leb-true, leb-false, le-leb, lt-leb}
 use Rattle.rows.specs.Rows.{pick, part}
-use Rattle.rows.proofs.Laws.{pick-yes, pick-no, drop-take}
+use Rattle.rows.proofs.Laws.{pick-yes, pick-no, drop-take, yes-later, no-later}
 use Rattle.messages_buffer.specs.declared.ExternalsPartitionRangeReaderState.{ExternalsPartitionRangeReaderState}
 use Rattle.messages_buffer.specs.Fullness.{noPartition, partitionsNumber, bufferCap}
 use Rattle.messages_buffer.proofs.Laws.{count-within}
@@ -129,22 +129,14 @@ module _ (s : ExternalsReader) (sound : stateNumber (s .«reader_state») ≡ 0)
           (e ∙ last-retained)
           ∙ ap
           (λ (b : Bool). withMark (withHeld (lastOnly (heldRanges (s .«reader_state»))) s) b)
-          (sym (ap (λ (b : Bool). s .«all_ranges_fully_read» && b) (ap (λ (z : ExternalsRangeReaderState). leb (s .«block_seqno») (z .seqno)) (sym q) ∙ le-leb _ _ h) ∙ and-yes (s .«all_ranges_fully_read»)))
-        where
-          and-yes : (b : Bool) → (b && true) ≡ b
-          and-yes true = refl
-          and-yes false = refl
+          (sym (ap (λ (b : Bool). s .«all_ranges_fully_read» && b) (ap (λ (z : ExternalsRangeReaderState). leb (s .«block_seqno») (z .seqno)) (sym q) ∙ le-leb _ _ h) ∙ sym (yes-later (s .«all_ranges_fully_read») true refl)))
 
       pub mark-goes : r .seqno < s .«block_seqno» → withMark n false ≡ withMark (withHeld (lastOnly (heldRanges (s .«reader_state»))) s) (s .«all_ranges_fully_read» && leb (s .«block_seqno») (lastRange (heldRanges (s .«reader_state»)) .seqno))
       mark-goes h =
           sym (retained-as false)
           ∙ ap
           (λ (b : Bool). withMark (withHeld (lastOnly (heldRanges (s .«reader_state»))) s) b)
-          (sym (ap (λ (b : Bool). s .«all_ranges_fully_read» && b) (ap (λ (z : ExternalsRangeReaderState). leb (s .«block_seqno») (z .seqno)) (sym q) ∙ lt-leb _ _ h) ∙ and-no (s .«all_ranges_fully_read»)))
-        where
-          and-no : (b : Bool) → (b && false) ≡ false
-          and-no true = refl
-          and-no false = refl
+          (sym (ap (λ (b : Bool). s .«all_ranges_fully_read» && b) (ap (λ (z : ExternalsRangeReaderState). leb (s .«block_seqno») (z .seqno)) (sym q) ∙ lt-leb _ _ h) ∙ sym (no-later (s .«all_ranges_fully_read») false refl)))
 
   -- ---- finalize
   module _ (ps : List ExternalsPartitionReaderState) where

@@ -6,6 +6,7 @@ use mathlib.Core.List.{[], _∷_}
 use native.Mathlib.Omega.{arith}
 use lib.ListN.{replicate}
 use borrow.Author.Tests.{ne-eqb}
+use Rattle.anchors_cache.proofs.Asked.{on-not}
 use Rattle.rows.specs.Rows.{pick}
 use Rattle.rows.proofs.Laws.{pick-yes, pick-no}
 use Rattle.messages_buffer.specs.Fullness.{firstNo}
@@ -43,21 +44,17 @@ module _ (s : ExternalsReader) (exists fits : Bool) where
       number-0 e = last-question ∙ pick-yes _ _ _ e
 
 -- ---- the answer
-on-refused : {A : Type 0} (n : ℕ) (a b : A) → (n ≡ 0 → ⊥) → onZero n a b ≡ b
-on-refused zero a b h = absurd (h refl)
-on-refused (suc n) a b h = refl
-
 module _ (n number : ℕ) (e : number ≡ n) (h : n ≡ 0 → ⊥) where
   reader-refused : (s after : ExternalsReader) → record { number = n; reader = s } ≡ changed number s after
   reader-refused s after = rw (e, ne-eqb n 0 h)
 
   pub flag-refused : (b : Bool) → record { number = n; flag = false } ≡ flagAnswer number b
   unfolding flagAnswer
-  flag-refused b = rw (e, on-refused n b false h)
+  flag-refused b = rw (e, on-not n b false h)
 
   pub partitions-refused : (a : ByPartitions) → record { number = n; values = replicate 8 0; present = replicate 8 false } ≡ partitionsAnswer number a
   unfolding partitionsAnswer
-  partitions-refused a = rw (e, on-refused n a (record { number = n; values = replicate 8 0; present = replicate 8 false }) h)
+  partitions-refused a = rw (e, on-not n a (record { number = n; values = replicate 8 0; present = replicate 8 false }) h)
 
 module _ (number : ℕ) (e : number ≡ 0) where
   reader-done : (s after r : ExternalsReader) → r ≡ after → record { number = 0; reader = r } ≡ changed number s after
@@ -108,7 +105,7 @@ pub on-zero : {A : Type 0} (n : ℕ) (a b : A) → n ≡ 0 → a ≡ onZero n a 
 on-zero n a b e = rw e
 
 pub on-refusal : {A : Type 0} (n : ℕ) (a b : A) → (n ≡ 0 → ⊥) → b ≡ onZero n a b
-on-refusal n a b h = sym (on-refused n a b h)
+on-refusal n a b h = sym (on-not n a b h)
 
 pub asked-first : (n m : ℕ) → n ≡ m → (n ≡ 0 → ⊥) → (a : FlagAnswer) → record { number = n; flag = false } ≡ onZero m a (record { number = m; flag = false })
 asked-first n m e h a = rw e (on-refusal m a (record { number = m; flag = false }) (λ q. h (e ∙ q)))
@@ -120,15 +117,5 @@ missing-yes b c e = rw e
 pub present-asks : (b c d : Bool) → b ≡ true → d ≡ c → d ≡ (not b || c)
 present-asks b c d e q = rw e q
 
-pub both-or-no : (a b : Bool) → b ≡ false → (a && b) ≡ false
-both-or-no true b e = e
-both-or-no false b e = refl
-
-pub first-no-no : (a b : Bool) → a ≡ false → (a && b) ≡ false
-first-no-no a b e = rw e
-
 pub both-yes : (a b : Bool) → a ≡ true → b ≡ true → (a && b) ≡ true
 both-yes a b e q = rw (e, q)
-
-pub yes-then : (a b c : Bool) → a ≡ true → c ≡ b → c ≡ (a && b)
-yes-then a b c e q = rw e q

@@ -6,17 +6,13 @@ use native.Mathlib.Omega.{arith}
 use lib.Dec.{leb, ltb, eqb}
 use borrow.Author.Tests.{leb-true, leb-false, lt-ltb, le-ltb, lt-leb, le-leb, ne-eqb, eq-eqb}
 use Rattle.rows.specs.Rows.{pick}
-use Rattle.rows.proofs.Laws.{pick-yes, pick-no}
+use Rattle.rows.proofs.Laws.{pick-yes, pick-no, no-later}
 use Rattle.ext_types.specs.Keys.{keyEqual}
 use Rattle.messages_buffer.specs.declared.ExternalsPartitionRangeReaderState.{ExternalsPartitionRangeReaderState}
 use Rattle.range_rules.specs.declared.ExternalsRangeReaderState.{ExternalsRangeReaderState}
 use Rattle.reader_rules.specs.declared.ExternalsPartitionReaderState.{ExternalsPartitionReaderState}
 use Rattle.reader_rules.specs.declared.Tally.{Tally}
 use Rattle.reader_rules.specs.Offsets.{collected, tallied, withOffsets, dropped, skipRaised, offsetRaised, marked}
-
-and-no : (b : Bool) → (b && false) ≡ false
-and-no true = refl
-and-no false = refl
 
 module _ (x : ExternalsPartitionRangeReaderState) where
   pub skip-stays : (skip : Bool) → skip ≡ false → withOffsets (x .«skip_offset») 0 x ≡ dropped skip x
@@ -37,7 +33,7 @@ module _ (x : ExternalsPartitionRangeReaderState) where
     absent-stays e = sym (pick-no _ _ _ (ap (λ (b : Bool). b && ltb greatest (p .«curr_processed_offset»)) e))
 
     pub not-above-stays : p .«curr_processed_offset» ≤ greatest → x ≡ offsetRaised p greatest x
-    not-above-stays h = sym (pick-no _ _ _ (ap (λ (b : Bool). p .present && b) (le-ltb greatest (p .«curr_processed_offset») h) ∙ and-no (p .present)))
+    not-above-stays h = sym (pick-no _ _ _ (sym (no-later (p .present) _ (le-ltb greatest (p .«curr_processed_offset») h))))
 
     pub above-raises : p .present ≡ true → greatest < p .«curr_processed_offset» → withOffsets (x .«skip_offset») (p .«curr_processed_offset») x ≡ offsetRaised p greatest x
     above-raises e h = sym (pick-yes _ _ _ (ap (λ (b : Bool). b && ltb greatest (p .«curr_processed_offset»)) e ∙ lt-ltb greatest (p .«curr_processed_offset») h))

@@ -9,7 +9,7 @@ use lib.Dec.{eqb}
 use lib.ListN.{length, getD}
 use borrow.Author.Tests.{eqb-true, eqb-false}
 use Rattle.rows.specs.Rows.{pick, part}
-use Rattle.rows.proofs.Laws.{part-cons, pick-yes, pick-no}
+use Rattle.rows.proofs.Laws.{part-cons, pick-yes, pick-no, no-later}
 use Rattle.messages_buffer.specs.Fullness.{every}
 use Rattle.range_rules.specs.declared.ExternalsRangeReaderState.{ExternalsRangeReaderState}
 use Rattle.reader_rules.specs.State.{noRange}
@@ -30,12 +30,8 @@ unfolding allBelow
 below-fail f zero i h e = absurd (omega arith)
 below-fail f (suc n) i h e = go (eqb i n) refl (λ g. below-fail f n i g e)
   where
-    and-no : (b : Bool) → (b && false) ≡ false
-    and-no true = refl
-    and-no false = refl
-
     go : (b : Bool) → eqb i n ≡ b → (i < n → allBelow n f ≡ false) → (allBelow n f && f n) ≡ false
-    go true q k = rw (sym (ap f (eqb-true i n q)) ∙ e) (and-no (allBelow n f))
+    go true q k = rw (sym (ap f (eqb-true i n q)) ∙ e) (sym (no-later (allBelow n f) false refl))
     go false q k = rw (k (let g = eqb-false i n q in omega arith))
 
 -- ---- a test of each

@@ -9,7 +9,7 @@ use lib.ListN.{length, set, length-set}
 use lib.Seq.{getD-set-same, getD-set-other}
 use borrow.Author.Tests.{leb-true, leb-false, ltb-true, eqb-true, eqb-false}
 use Rattle.rows.specs.Rows.{pick}
-use Rattle.rows.proofs.Laws.{and-true, pick-yes}
+use Rattle.rows.proofs.Laws.{and-true, pick-yes, or-later}
 use Rattle.ext_types.specs.Keys.{keyEqual}
 use Rattle.messages_buffer.specs.declared.ExternalsPartitionRangeReaderState.{ExternalsPartitionRangeReaderState}
 use Rattle.messages_buffer.specs.Fullness.{noPartition}
@@ -108,8 +108,4 @@ module _ (ps : List ExternalsPartitionReaderState) (l : List ExternalsRangeReade
   finalize-clears-no-mark e =
       ap (λ (r : ExternalsRangeReaderState). r .«fully_read») finalized-at
       ∙ (ap (λ (b : Bool). keyEqual (rangeAt j (onLast change l) .«current_position») (rangeAt j (onLast change l) .to) || b) (last-or-same (λ r. r .«fully_read» ≡ true) (λ q. e) e)
-      ∙ or-yes (keyEqual (rangeAt j (onLast change l) .«current_position») (rangeAt j (onLast change l) .to)))
-    where
-      or-yes : (b : Bool) → (b || true) ≡ true
-      or-yes true = refl
-      or-yes false = refl
+      ∙ or-later (keyEqual (rangeAt j (onLast change l) .«current_position») (rangeAt j (onLast change l) .to)) true refl)

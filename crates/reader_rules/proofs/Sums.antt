@@ -31,7 +31,7 @@ sums-at-most : (a b : List ℕ) (k m : ℕ) → ((j : ℕ) → getD a j 0 ≤ k)
 unfolding sums
 sums-at-most a b k m f g = each-at-most 8 (λ j. getD a j 0 + getD b j 0) (k + m) (λ j. omega (arith, f j, g j))
 
-added-at-most : (a b : ReadCounts) (k m : ℕ) → AtMost k a → AtMost m b → AtMost (k + m) (countsAdded a b)
+pub added-at-most : (a b : ReadCounts) (k m : ℕ) → AtMost k a → AtMost m b → AtMost (k + m) (countsAdded a b)
 added-at-most a b k m f g =
     record {
       read = sums-at-most (a .read) (b .read) k m (f .read) (g .read);
@@ -39,7 +39,7 @@ added-at-most a b k m f g =
       buffered = sums-at-most (a .buffered) (b .buffered) k m (f .buffered) (g .buffered);
     }
 
-weaker : (k m : ℕ) (c : ReadCounts) → k ≤ m → AtMost k c → AtMost m c
+pub weaker : (k m : ℕ) (c : ReadCounts) → k ≤ m → AtMost k c → AtMost m c
 weaker k m c h a = record { read = λ i. omega (arith, h, a .read i); expired = λ i. omega (arith, h, a .expired i); buffered = λ i. omega (arith, h, a .buffered i) }
 
 -- 16 ranges of at most 1,024 cached messages

@@ -10,6 +10,7 @@ use lib.Dec.{leb, ltb, eqb}
 use lib.ListN.{length, take, drop, length-drop}
 use lib.Seq.{drop-drop, length-take-le}
 use borrow.Author.Tests.{ltb-true, ltb-false, lt-leb, le-ltb, eqb-true, eqb-false, eq-eqb, ne-eqb}
+use Rattle.anchors_cache.proofs.Asked.{on-not}
 use Rattle.rows.specs.Rows.{pick, word, numAt}
 use Rattle.rows.proofs.Laws.{num-in, part-part, pick-no}
 use Rattle.messages_buffer.specs.Fullness.{firstNo}
@@ -175,10 +176,6 @@ module _ (rec : List ℕ) (long : longestRecord < length rec) where
     a-long-record-not-as-stated-is-refused-by-17 e = sym (a-long-record-is-judged-by-its-first-52-bytes len tables number t) ∙ rw e
 
 -- ---- what the record says and leaves
-on-no : {A : Type 0} (n : ℕ) (a b : A) → (n ≡ 0 → ⊥) → onZero n a b ≡ b
-on-no zero a b h = absurd (h refl)
-on-no (suc n) a b h = refl
-
 taken-parts : (s : Session) (r : List ℕ) → isTaken s r ≡ true → (s .stopped ≡ false) × (recordNumber (recordCounted s .records) (numAt 2 0 r) (drop 2 r) ≡ 0)
 unfolding isTaken
 taken-parts s r e = go (s .stopped) refl (ltb (length r) 2) (eqb (recordNumber (recordCounted s .records) (numAt 2 0 r) (drop 2 r)) 0) refl e
@@ -229,11 +226,11 @@ module _ (s : Session) (rec : List ℕ) (long : longestRecord < length rec) wher
 
     pub a-long-record-leaves-the-tables : plainTables tables area routes (recordCounted s) (numAt 2 0 rec) (drop 2 rec) ≡ tables
     unfolding plainTables tablesAfter recordCounted
-    a-long-record-leaves-the-tables = rw (a-long-record-that-is-taken-is-an-anchor taken) (on-no _ _ _ refuses)
+    a-long-record-leaves-the-tables = rw (a-long-record-that-is-taken-is-an-anchor taken) (on-not _ _ _ refuses)
 
     pub a-long-record-leaves-the-area : plainArea tables area routes (recordCounted s) (numAt 2 0 rec) (drop 2 rec) ≡ area
     unfolding plainArea areaAfter recordCounted
-    a-long-record-leaves-the-area = rw (a-long-record-that-is-taken-is-an-anchor taken) (on-no _ _ _ refuses)
+    a-long-record-leaves-the-area = rw (a-long-record-that-is-taken-is-an-anchor taken) (on-not _ _ _ refuses)
 
     pub a-long-record-leaves-the-routes : plainRoutes tables area routes (recordCounted s) (numAt 2 0 rec) (drop 2 rec) ≡ routes
     unfolding plainRoutes

@@ -14,18 +14,10 @@ use lib.Bits.{bitOr, or-shifted}
 use lib.Count.{trailingZeros, under}
 use borrow.Author.Tests.{eq-eqb, ne-eqb, eqb-true, eqb-false, le-leb, lt-leb, not-true}
 use Rattle.rows.specs.Rows.{pick, part}
-use Rattle.rows.proofs.Laws.{part-cons, and-true}
+use Rattle.rows.proofs.Laws.{part-cons, and-true, yes-later, no-later}
 use Rattle.shard_ident.specs.declared.ShardIdent.{ShardIdent}
 use Rattle.shard_ident.specs.declared.Membership.the-variants.{Refused, Ours, NotOurs}
 use Rattle.shard_ident.specs.Shard.{bit, lowestSet, tag, isShard, shardNumber, sameBits, sameAboveTag, sameWorkchain, inShard, bigEndian, isOurs, answerOf, afterQuestion}
-
-and-yes : (x : Bool) → (x && true) ≡ x
-and-yes true = refl
-and-yes false = refl
-
-and-no : (x : Bool) → (x && false) ≡ false
-and-no true = refl
-and-no false = refl
 
 -- ---- bits
 -- one shift more
@@ -127,7 +119,7 @@ bits-at-or-below-the-tag-do-not-count s workchain a b h =
 pub prefix-8000000000000000-takes-the-whole-workchain : (s : ShardIdent) (workchain account : ℕ)
     → s .prefix ≡ 2 ^ 63 → inShard s workchain account ≡ sameWorkchain (s .workchain) workchain
 unfolding sameAboveTag lowestSet sameBits
-prefix-8000000000000000-takes-the-whole-workchain s workchain account e = rw e (and-yes (sameWorkchain (s .workchain) workchain))
+prefix-8000000000000000-takes-the-whole-workchain s workchain account e = rw e (sym (yes-later (sameWorkchain (s .workchain) workchain) true refl))
 
 -- ---- question 2
 pub no-prefix : (s : ShardIdent) → s .prefix ≡ 0 → isShard s ≡ false
@@ -136,7 +128,7 @@ no-prefix s e = rw (eq-eqb (s .prefix) 0 e)
 
 pub low-tag : (s : ShardIdent) → tag (s .prefix) < 3 → isShard s ≡ false
 unfolding isShard
-low-tag s h = rw (lt-leb 3 (tag (s .prefix)) h) (and-no (not (eqb (s .prefix) 0)))
+low-tag s h = rw (lt-leb 3 (tag (s .prefix)) h) (sym (no-later (not (eqb (s .prefix) 0)) false refl))
 
 pub high-tag : (s : ShardIdent) → (s .prefix ≡ 0 → ⊥) → 3 ≤ tag (s .prefix) → isShard s ≡ true
 unfolding isShard

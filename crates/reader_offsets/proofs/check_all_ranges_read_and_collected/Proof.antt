@@ -3,9 +3,10 @@ use mathlib.Core.Path.{_≡_, sym, _∙_}
 use native.Mathlib.Omega.{arith}
 use borrow.Author.Tests.{not-true, not-false}
 use borrow.Author.Needs.{needs}
+use Rattle.rows.proofs.Laws.{no-here, yes-here}
 use Rattle.reader_rules.specs.State.{stateNumber}
 use Rattle.reader_offsets.specs.Calls.{checkReadAndCollectedCall}
-use Rattle.reader_offsets.proofs.Numbers.{flag-refused, flag-done, first-no-no, yes-then}
+use Rattle.reader_offsets.proofs.Numbers.{flag-refused, flag-done}
 use Rattle.externals_reader.proofs.Sound.{sound-parts}
 use Rattle.reader_offsets.proofs.check_all_ranges_read_and_collected.Statement.{statement}
 use Rattle.reader_offsets.proofs.check_all_ranges_read_and_collected.Tie as tie
@@ -28,7 +29,7 @@ unfolding checkReadAndCollectedCall
 returns-2 c =
     let s = c .before .before .before .before .before .before .before .args .reader in
     let sound : stateNumber (s .«reader_state») ≡ 0 = sym (c .before .before .before .before .before .check-state .ensures) ∙ c .before .before .before .before .if1 .left in
-    flag-done _ sound _ _ (sym (first-no-no _ _ (sym (c .before .all-fully-read .ensures) ∙ not-true _ (c .if2 .taken))))
+    flag-done _ sound _ _ (no-here _ _ (sym (c .before .all-fully-read .ensures) ∙ not-true _ (c .if2 .taken)))
 
 every-range-requires : tie.Need-every-range-requires
 every-range-requires c κs =
@@ -41,7 +42,7 @@ unfolding checkReadAndCollectedCall
 returns-3 c =
     let s = c .before .before .before .before .before .before .before .before .args .reader in
     let sound : stateNumber (s .«reader_state») ≡ 0 = sym (c .before .before .before .before .before .before .check-state .ensures) ∙ c .before .before .before .before .before .if1 .left in
-    flag-done _ sound _ _ (yes-then _ _ _ (sym (c .before .before .all-fully-read .ensures) ∙ not-false _ (c .before .if2 .left)) (c .every-range .ensures))
+    flag-done _ sound _ _ (yes-here _ _ _ (sym (c .before .before .all-fully-read .ensures) ∙ not-false _ (c .before .if2 .left)) (c .every-range .ensures))
 
 pub check-all-ranges-read-and-collected-spec : {M : Type 1} → statement M
 check-all-ranges-read-and-collected-spec =

@@ -3,12 +3,13 @@ use mathlib.Core.Path.{_≡_, refl, sym, ap, _∙_}
 use native.Mathlib.Omega.{arith}
 use borrow.Author.Tests.{not-true, not-false, lt-ltb, le-ltb}
 use borrow.Author.Needs.{needs}
+use Rattle.rows.proofs.Laws.{no-here, no-later}
 use Rattle.range_rules.specs.declared.ExternalsRangeReaderState.{ExternalsRangeReaderState}
 use Rattle.reader_rules.specs.State.{stateNumber}
 use Rattle.reader_rules.specs.Offsets.{readerPartition, withPartition, withProcessedTo}
 use Rattle.reader_offsets.specs.Calls.{setProcessedCall}
 use Rattle.reader_rules.specs.declared.ExternalsPartitionReaderState.{ExternalsPartitionReaderState}
-use Rattle.reader_offsets.proofs.Numbers.{refused-5, refused-15, done, both-or-no, first-no-no, both-yes}
+use Rattle.reader_offsets.proofs.Numbers.{refused-5, refused-15, done, both-yes}
 use Rattle.externals_reader.proofs.Sound.{sound-parts}
 use Rattle.reader_offsets.proofs.set_processed_to_current_position.Statement.{statement}
 use Rattle.reader_offsets.proofs.set_processed_to_current_position.Tie as tie
@@ -30,7 +31,7 @@ unfolding setProcessedCall
 returns-2 c =
     let s = c .before .before .before .before .before .before .before .args .reader in
     let sound : stateNumber (s .«reader_state») ≡ 0 = sym (c .before .before .before .before .before .check-state .ensures) ∙ c .before .before .before .before .if1 .left in
-    refused-15 s _ _ _ sound (first-no-no _ _ (sym (ap (λ (z : ExternalsPartitionReaderState). z .present) (c .before .before .partition-at .ensures)) ∙ not-true _ (c .if2 .taken)))
+    refused-15 s _ _ _ sound (sym (no-here _ _ (sym (ap (λ (z : ExternalsPartitionReaderState). z .present) (c .before .before .partition-at .ensures)) ∙ not-true _ (c .if2 .taken))))
 
 returns-3 : tie.Need-returns-3
 unfolding setProcessedCall
@@ -39,7 +40,7 @@ returns-3 c =
     let s = c-args .reader in
     let sound : stateNumber (s .«reader_state») ≡ 0 = sym (c .before .before .before .before .before .before .before .check-state .ensures) ∙ c .before .before .before .before .before .before .if1 .left in
     let i = c-args .par-id in
-    refused-15 s _ _ _ sound (both-or-no (readerPartition i (s .«reader_state» .«by_partitions») .present) _ (le-ltb 0 (s .«reader_state» .len) (omega (arith, c .if3 .taken))))
+    refused-15 s _ _ _ sound (sym (no-later (readerPartition i (s .«reader_state» .«by_partitions») .present) _ (le-ltb 0 (s .«reader_state» .len) (omega (arith, c .if3 .taken)))))
 
 last-range-requires : tie.Need-last-range-requires
 last-range-requires c κs =

@@ -5,12 +5,13 @@ use native.Mathlib.Omega.{arith}
 use lib.ListN.{length, length-map}
 use borrow.Author.Tests.{not-true, not-false}
 use borrow.Author.Needs.{needs}
+use Rattle.rows.proofs.Laws.{no-here, no-later}
 use Rattle.messages_buffer.specs.declared.ExternalsPartitionRangeReaderState.{ExternalsPartitionRangeReaderState}
 use Rattle.reader_rules.specs.State.{heldRanges, stateNumber, maxRanges}
 use Rattle.reader_rules.specs.Offsets.{readerPartition, recordOf, rangeAt, skipRaised}
 use Rattle.reader_offsets.specs.Calls.{setSkipCall}
 use Rattle.reader_rules.specs.declared.ExternalsPartitionReaderState.{ExternalsPartitionReaderState}
-use Rattle.reader_offsets.proofs.Numbers.{refused-5, refused-15, done, both-or-no, first-no-no, both-yes}
+use Rattle.reader_offsets.proofs.Numbers.{refused-5, refused-15, done, both-yes}
 use Rattle.reader_offsets.proofs.Changes.{last-place, present-inside, last-changed}
 use Rattle.externals_reader.proofs.Sound.{sound-parts}
 use Rattle.reader_offsets.proofs.set_skip_processed_offset_to_current.Statement.{statement}
@@ -33,7 +34,7 @@ unfolding setSkipCall
 returns-2 c =
     let s = c .before .before .before .before .before .before .before .args .reader in
     let sound : stateNumber (s .«reader_state») ≡ 0 = sym (c .before .before .before .before .before .check-state .ensures) ∙ c .before .before .before .before .if1 .left in
-    refused-15 s _ _ _ sound (first-no-no _ _ (sym (ap (λ (z : ExternalsPartitionReaderState). z .present) (c .before .before .partition-at .ensures)) ∙ not-true _ (c .if2 .taken)))
+    refused-15 s _ _ _ sound (sym (no-here _ _ (sym (ap (λ (z : ExternalsPartitionReaderState). z .present) (c .before .before .partition-at .ensures)) ∙ not-true _ (c .if2 .taken))))
 
 last-place-requires : tie.Need-last-place-requires
 last-place-requires c κs = search needs
@@ -52,7 +53,7 @@ returns-3 c =
     let sound : stateNumber (s .«reader_state») ≡ 0 = sym (c .before .before .before .before .before .before .before .before .before .check-state .ensures) ∙ c .before .before .before .before .before .before .before .before .if1 .left in
     let i = c-args .par-id in
     let n : length (s .«reader_state» .ranges) ≡ maxRanges = sym (length-map (s .«reader_state» .ranges) _) ∙ c .before .before .before .before .before .before .before .before .before .before .before .good .0 .1 .1 .1 .1 .1 .1 .1 .0 .1 .1 .0 .1 .0 .1 in
-    refused-15 s _ _ _ sound (both-or-no (readerPartition i (s .«reader_state» .«by_partitions») .present) _ (sym (ap (λ (k : ℕ). recordOf i (rangeAt k (heldRanges (s .«reader_state»))) .present) (last-place (s .«reader_state» .ranges) (s .«reader_state» .len) (omega (arith, n, (sound-parts (s .«reader_state») sound) .0)) _ (c .before .before .before .last-place .ensures))) ∙ (sym (ap (λ (z : ExternalsPartitionRangeReaderState). z .present) (c .before .before .record-of .ensures)) ∙ not-true _ (c .if3 .taken))))
+    refused-15 s _ _ _ sound (sym (no-later (readerPartition i (s .«reader_state» .«by_partitions») .present) _ (sym (ap (λ (k : ℕ). recordOf i (rangeAt k (heldRanges (s .«reader_state»))) .present) (last-place (s .«reader_state» .ranges) (s .«reader_state» .len) (omega (arith, n, (sound-parts (s .«reader_state») sound) .0)) _ (c .before .before .before .last-place .ensures))) ∙ (sym (ap (λ (z : ExternalsPartitionRangeReaderState). z .present) (c .before .before .record-of .ensures)) ∙ not-true _ (c .if3 .taken)))))
 
 skip-raised-requires : tie.Need-skip-raised-requires
 skip-raised-requires c κs = search needs
