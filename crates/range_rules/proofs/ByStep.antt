@@ -27,7 +27,7 @@ use Rattle.range_rules.specs.declared.ReadNextExternalsMode.the-variants
 use Rattle.range_rules.specs.declared.LastChainTime.the-variants.{Nothing}
 use Rattle.range_rules.specs.declared.ExternalsRangeReaderState.{ExternalsRangeReaderState}
 use Rattle.range_rules.specs.declared.Verdict.the-variants.{Keep, Buffer, Refuse}
-use Rattle.range_rules.specs.Rules.{Outcome, keyAt, nextKey, endReached, raised, advanced, ends, stopped, noKey, noProcessed, judge, more, readOne, bufferOne, after, popped, offsetIn, lookKey, looked, expired, leave, afterPop, isWhole, finished, anchorRead, anchorsRead, contextOf, entryOf, sixSteps, rangeAfter, rangeQuestions}
+use Rattle.range_rules.specs.Rules.{Outcome, keyAt, withPlace, nextKey, endReached, raised, advanced, ends, stopped, noKey, noProcessed, judge, more, readOne, bufferOne, after, popped, offsetIn, lookKey, looked, expired, leave, afterPop, isWhole, finished, anchorRead, anchorsRead, contextOf, entryOf, sixSteps, rangeAfter, rangeQuestions}
 
 abbrev zeros : List ℕ
 zeros = 0 ∷ 0 ∷ 0 ∷ 0 ∷ 0 ∷ 0 ∷ 0 ∷ 0 ∷ []
@@ -120,6 +120,11 @@ module _ (x : Context) (routes : List ℕ) (id : ℕ) (time : ChainTime) (l : Li
       (ap (λ (q : RangeRead). q .«fully_read») h, ap (λ (q : RangeRead). q .ended) h, ap (λ (q : RangeRead). q .last) h)
 
 -- ---- step 3
+-- the key and the mark of the anchor before are forgotten, so what they were at entry does not count
+pub a-look-at-an-anchor-begins-anew : (x : Context) (id : ℕ) (w : Walk) (key : ExternalKey) (mark : Bool) → looked x id (withPlace (record { key = key; reached = mark; position = w .place .position; to = w .place .to }) w) ≡ looked x id w
+unfolding looked
+a-look-at-an-anchor-begins-anew x id w key mark = refl
+
 pub on-the-position's-own-anchor-the-offset-is-the-position's : (position : ExternalKey) → offsetIn position (position .«anchor_id») ≡ position .«msgs_offset»
 on-the-position's-own-anchor-the-offset-is-the-position's position = pick-yes _ _ _ (eq-eqb (position .«anchor_id») _ refl)
 
