@@ -1,13 +1,13 @@
 -- Laws of the search in route records, and that it answers as the router does on rows of 34 bytes.
-use Prim.Native.Nat.{ℕ, zero, suc, _+_, _-_, _*_, _/_, _<_, _≤_}
+use Prim.Native.Nat.{ℕ, zero, suc, _+_, _-_, _*_, _/_, _%_, _<_, _≤_}
 use mathlib.Core.Path.{_≡_, refl, sym, _∙_, ap, subst}
-use mathlib.Core.Bool.{Bool, true, false, not, _&&_}
-use mathlib.Core.List.{List, [], _∷_, _++_, map}
+use mathlib.Core.Bool.{Bool, true, false, not, _&&_, _||_}
+use mathlib.Core.List.{List, [], _∷_, _++_, map, append-assoc, append-nil}
 use native.Mathlib.Omega.{arith}
 use native.Mathlib.Numerals.{add-one}
 use lib.Dec.{eqb, ltb}
 use lib.IntN.{ℤ, pos, negsuc}
-use lib.ListN.{length, getD, take, drop, set, length-set, length-take, length-drop, length-append, drop-of-length-le}
+use lib.ListN.{length, getD, take, drop, set, length-set, length-take, length-drop, length-append, length-map, drop-of-length-le}
 use lib.Seq.{take-length, drop-cons, getD-drop, getD-take, length-take-le, take-suc-set, take-at, drop-at, getD-at}
 use mir.Syntax.{w8}
 use mir.Val.{SFits}
@@ -15,7 +15,8 @@ use borrow.Author.Tests.{eq-eqb, ne-eqb, eqb-true, eqb-false, ltb-true, ltb-fals
 use Rattle.rows.specs.Rows.{pick, sameBytes, startsWith, rows}
 use Rattle.rows.proofs.Laws.{pick-yes, pick-no, never, no-later}
 use Rattle.shard_ident.specs.Shard.{signedByte, equalℤ}
-use Rattle.router.specs.Router.{maxRoutes, routePartition, routesNumber, firstPartition, unlessRefused, getPartition, partitionOf as rowsPartition}
+use Rattle.router.proofs.Laws.{question-3-of-one-row-more, the-first-rows-of-a-table-that-passes-question-3-pass-it}
+use Rattle.router.specs.Router.{maxRoutes, addressOf, routePartition, listed, noneTwice, partitionsExist, soundRoutes, routesNumber, firstPartition, unlessRefused, getPartition, partitionOf as rowsPartition}
 use Rattle.by_reference.specs.Search.{sameRoute, firstPartitionIn, listedIn, takesOne, takesAll, recordsNumber, getPartitionIn, nothingWalked, takesRoute, withRoute, refusedWalk, walkedOn, walkedOver, walkAnswer, routeOf, routesOf, byteOf, routeRow, rowsOf}
 use Rattle.by_reference.specs.declared.Route.{Route}
 use Rattle.by_reference.specs.declared.Walk.{Walk}
@@ -255,11 +256,71 @@ written-agree [] w account are fw = refl
 written-agree (r ∷ l) w account are fw =
     rw (same-workchain (r .workchain) w (are .0 .0) fw, take-at (r .account) (r .partition ∷ []) 32 (are .0 .1), getD-at (r .account) (r .partition) [] 0 32 (are .0 .1), written-agree l w account (are .1) fw)
 
+-- ---- question 3 of records and of their rows
+row-address : (r : Route) → length (r .account) ≡ 32 → addressOf (routeRow r) ≡ byteOf (r .workchain) ∷ r .account
+row-address r e = ap (λ (k : List ℕ). byteOf (r .workchain) ∷ k) (take-at (r .account) (r .partition ∷ []) 32 e)
+
+listed-agree : (l : List Route) (w : ℤ) (account : List ℕ) → AreRoutes l → SFits w8 w → listed (byteOf w ∷ account) (map routeRow l) ≡ listedIn w account l
+unfolding listed listedIn sameBytes
+listed-agree [] w account are fw = refl
+listed-agree (r ∷ l) w account are fw =
+    rw (same-workchain (r .workchain) w (are .0 .0) fw, take-at (r .account) (r .partition ∷ []) 32 (are .0 .1), listed-agree l w account (are .1) fw) (go (sameRoute r w account) (listedIn w account l))
+  where
+    go : (b c : Bool) → (b || c) ≡ pick b true c
+    go true c = refl
+    go false c = refl
+
+map-behind : (l : List Route) (r : Route) → map routeRow (l ++ (r ∷ [])) ≡ map routeRow l ++ (routeRow r ∷ [])
+map-behind [] r = refl
+map-behind (x ∷ l) r = ap (λ (k : List (List ℕ)). routeRow x ∷ k) (map-behind l r)
+
+are-behind : (l : List Route) (r : Route) → AreRoutes l → AreRoutes (r ∷ []) → AreRoutes (l ++ (r ∷ []))
+are-behind [] r are one = one
+are-behind (x ∷ l) r are one = (are .0, are-behind l r (are .1) one)
+
+one-taken : (before : List Route) (r : Route) → AreRoutes before → AreRoutes (r ∷ []) → soundRoutes (map routeRow before) ≡ true → soundRoutes (map routeRow before ++ (routeRow r ∷ [])) ≡ takesOne before r
+unfolding takesOne
+one-taken before r are one e =
+    question-3-of-one-row-more (map routeRow before) (routeRow r) e
+    ∙ rw (length-map before routeRow, getD-at (r .account) (r .partition) [] 0 32 (one .0 .1), row-address r (one .0 .1), listed-agree before (r .workchain) (r .account) are (one .0 .0))
+
+all-taken : (before l : List Route) → AreRoutes before → AreRoutes l → soundRoutes (map routeRow before) ≡ true → takesAll before l ≡ soundRoutes (map routeRow before ++ map routeRow l)
+unfolding takesAll
+all-taken before [] are more e = sym (ap soundRoutes (append-nil (map routeRow before)) ∙ e)
+all-taken before (r ∷ l) are more e =
+    go (takesOne before r) (one-taken before r are (more .0, tt) e) (λ h. all-taken (before ++ (r ∷ [])) l (are-behind before r are (more .0, tt)) (more .1) (ap soundRoutes (map-behind before r) ∙ h))
+  where
+    first : List (List ℕ)
+    first = map routeRow before ++ (routeRow r ∷ [])
+
+    rest : List (List ℕ)
+    rest = map routeRow l
+
+    together : soundRoutes (first ++ rest) ≡ soundRoutes (map routeRow before ++ (routeRow r ∷ rest))
+    together = ap soundRoutes (append-assoc (map routeRow before) (routeRow r ∷ []) rest)
+
+    refused : (b : Bool) → soundRoutes (first ++ rest) ≡ b → soundRoutes first ≡ false → false ≡ b
+    refused true q h = never (sym (the-first-rows-of-a-table-that-passes-question-3-pass-it first rest q) ∙ h)
+    refused false q h = refl
+
+    go : (b : Bool) → soundRoutes first ≡ b → (soundRoutes first ≡ true → takesAll (before ++ (r ∷ [])) l ≡ soundRoutes (map routeRow (before ++ (r ∷ [])) ++ rest))
+        → (b && takesAll (before ++ (r ∷ [])) l) ≡ soundRoutes (map routeRow before ++ (routeRow r ∷ rest))
+    go true h next = next h ∙ ap (λ (k : List (List ℕ)). soundRoutes (k ++ rest)) (map-behind before r) ∙ together
+    go false h next = refused (soundRoutes (first ++ rest)) refl h ∙ together
+
+-- Records pass question 3 exactly if their rows do.
+pub question-3-of-the-records-is-that-of-their-rows : (l : List Route) → AreRoutes l → recordsNumber l ≡ routesNumber (rowsOf l)
+unfolding recordsNumber routesNumber soundRoutes noneTwice partitionsExist
+question-3-of-the-records-is-that-of-their-rows l are =
+    let n : length (rowsOf l) / 34 ≡ length l = omega (arith, rows-length l are) in
+    let z : length (rowsOf l) % 34 ≡ 0 = omega (arith, rows-length l are) in
+    rw (n, z, rows-are l are, all-taken [] l tt are refl)
+
 -- The same from the records on: the router on their rows answers what the search in them answers.
-pub the-rows-router-is-the-records-router : (l : List Route) (w : ℤ) (account : List ℕ) → AreRoutes l → SFits w8 w
-    → getPartition (rowsOf l) (byteOf w ∷ account) ≡ unlessRefused (routesNumber (rowsOf l)) (firstPartitionIn l w account)
-unfolding getPartition rowsPartition
+pub the-rows-router-is-the-records-router : (l : List Route) (w : ℤ) (account : List ℕ) → AreRoutes l → SFits w8 w → getPartition (rowsOf l) (byteOf w ∷ account) ≡ getPartitionIn l w account
+unfolding getPartition getPartitionIn rowsPartition
 the-rows-router-is-the-records-router l w account are fw =
     ap (λ (n : ℕ). unlessRefused (routesNumber (rowsOf l)) (firstPartition (byteOf w ∷ account) (rows 34 n (rowsOf l)))) {x = length (rowsOf l) / 34} {y = length l} (omega (arith, rows-length l are))
     ∙ ap (λ (k : List (List ℕ)). unlessRefused (routesNumber (rowsOf l)) (firstPartition (byteOf w ∷ account) k)) (rows-are l are)
     ∙ ap (unlessRefused (routesNumber (rowsOf l))) (written-agree l w account are fw)
+    ∙ ap (λ (n : ℕ). unlessRefused n (firstPartitionIn l w account)) (sym (question-3-of-the-records-is-that-of-their-rows l are))

@@ -136,7 +136,6 @@ pub record SameViews (tables area tables′ area′ : List ℕ) (t : AnchorsCach
       let k = length messages in
       view (addedTables a (t .cache) tables) (addedArea a messages tables (t .cache) area) (addedCache a (length area) k tables (t .cache))
       ≡ view (addedTables a (t .cache) tables′) (addedArea a messages tables′ (t .cache) area′) (addedCache a (length area′) k tables′ (t .cache))
-
   pub add-info : (i : Info) → Fits i → addInfoNumber (length area) tables t ≡ 0
       → view (historyAdded (infoRow i) (t .cache) tables) area (inHistory (t .cache)) ≡ view (historyAdded (infoRow i) (t .cache) tables′) area′ (inHistory (t .cache))
 

@@ -10,7 +10,7 @@ use borrow.Author.Tests.{lt-ltb, le-ltb, lt-leb, le-leb}
 use lib.Dec.{ltb}
 use Rattle.rows.specs.Rows.{pick}
 use Rattle.rows.proofs.Laws.{pick-yes, pick-no}
-use Rattle.cache_rules.specs.Rules.{keepFront, Info, Anchor, Cache, Row, nonempty, maxAnchors, maxMessages, maxHistory, entryOf, addAnchor, addInfo, dropStale, popFront, trimBack, trimHistory, trimTo, aboveLast, room}
+use Rattle.cache_rules.specs.Rules.{keepFront, Info, Anchor, Cache, Row, nonempty, maxAnchors, maxMessages, maxHistory, entryOf, addAnchor, addInfo, dropStale, popFront, trimBack, trimHistory, trimTo, aboveLast, room, anchorTime, trim, rowOf, withRow}
 
 -- ---- add
 module _ (a : Anchor) (v : Cache) where
@@ -41,6 +41,9 @@ module _ (i : Info) (v : Cache) where
   unfolding addInfo
   an-entry-leaves-anchors-and-pending = (refl, refl)
 
+pub a-row-with-its-messages-is-the-anchor : (a : Anchor) → withRow (rowOf a) (a .messages) ≡ a
+a-row-with-its-messages-is-the-anchor a = refl
+
 -- ---- pop
 pub the-last-history-entry-stays-however-old : (ct : ℕ) (x : Info) → dropStale ct (x ∷ []) ≡ x ∷ []
 unfolding dropStale
@@ -63,6 +66,10 @@ module _ (h : List Info) (p : Bool) where
   pub after-a-pop-pending-says-whether-the-cache-is-nonempty : (a : Anchor) (l : List Anchor) → popFront (record { anchors = a ∷ l; history = h; pending = p }) .pending ≡ nonempty l
   unfolding popFront
   after-a-pop-pending-says-whether-the-cache-is-nonempty a l = refl
+
+  pub history-goes-by-the-popped-anchor's-chain-time : (a : Anchor) (l : List Anchor) → popFront (record { anchors = a ∷ l; history = h; pending = p }) .history ≡ dropStale (a .time) h
+  unfolding popFront
+  history-goes-by-the-popped-anchor's-chain-time a l = refl
 
   pub a-pop-takes-the-front : (a : Anchor) (l : List Anchor) → popFront (record { anchors = a ∷ l; history = h; pending = p }) .anchors ≡ l
   unfolding popFront
@@ -91,6 +98,19 @@ module _ {A : Type 0} (time : A → ℕ) (ct : ℕ) (l : List A) (x : A) where
 
   pub what-is-above-ct-goes : ct < time x → trimBack time ct (l ++ (x ∷ [])) ≡ trimBack time ct l
   what-is-above-ct-goes h = trim-snoc time ct l x ∙ pick-yes _ _ _ (lt-ltb ct (time x) h)
+
+-- a cached anchor goes by its own chain time
+module _ (ct : ℕ) (l : List Anchor) (a : Anchor) (h : List Info) (p : Bool) where
+  abbrev ending : Cache
+  ending = record { anchors = l ++ (a ∷ []); history = h; pending = p }
+
+  pub a-trim-leaves-an-anchor-at-ct : a .time ≤ ct → trim ct ending .anchors ≡ l ++ (a ∷ [])
+  unfolding trim
+  a-trim-leaves-an-anchor-at-ct e = what-is-at-ct-stays anchorTime ct l a e
+
+  pub a-trim-takes-an-anchor-above-ct : ct < a .time → trim ct ending .anchors ≡ trim ct (record { anchors = l; history = h; pending = p }) .anchors
+  unfolding trim
+  a-trim-takes-an-anchor-above-ct e = what-is-above-ct-goes anchorTime ct l a e
 
 pub a-trim-never-takes-the-first-history-entry : (ct : ℕ) (x : Info) (l : List Info) → nonempty (trimHistory ct (x ∷ l)) ≡ true
 unfolding trimHistory

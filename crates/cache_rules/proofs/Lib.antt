@@ -1,2 +1,3 @@
 pub mod ByCall
 pub mod Lists
+pub mod Examples

@@ -9,7 +9,7 @@ use lib.Dec.{ltb, leb}
 use lib.ListN.{length, take}
 use borrow.Author.Tests.{lt-ltb, le-ltb, leb-true, leb-false}
 use Rattle.rows.specs.Rows.{pick}
-use Rattle.cache_rules.specs.Rules.{Info, Cache, addInfo, dropStale, keepFront, trimBack, trimHistory, infoTime, lastOf, lastNotAbove, infoAtCt, orElse}
+use Rattle.cache_rules.specs.Rules.{Info, Cache, addInfo, dropStale, keepFront, trimBack, trimHistory, infoTime, lastOf, lastNotAbove, infoAtCt, orElse, Anchor, addAnchor, rowOf}
 use Rattle.cache_rules.proofs.ByCall.{trim-snoc}
 
 -- ---- history from the front
@@ -74,8 +74,6 @@ unfolding trimHistory
 history-prefix ct [] = refl
 history-prefix ct (x ∷ l) = ap (λ (m : List Info). x ∷ m) (trim-prefix infoTime ct l)
 
--- the windows that a trim leaves
-
 -- ---- the last of a list
 pub last-snoc : {A : Type 0} (l : List A) (x : A) → lastOf (l ++ (x ∷ [])) ≡ some x
 unfolding lastOf
@@ -86,6 +84,12 @@ last-snoc (y ∷ z ∷ l) x = last-snoc (z ∷ l) x
 pub an-added-entry-is-the-last-imported : (i : Info) (v : Cache) → lastOf (addInfo i v .history) ≡ some i
 unfolding addInfo
 an-added-entry-is-the-last-imported i v = last-snoc (v .history) i
+
+-- the message count, not ours, stands for all
+pub the-last-history-entry-after-an-add-is-the-anchor's-row : (a : Anchor) (v : Cache)
+    → lastOf (addAnchor a v .history) ≡ some (record { id = rowOf a .id; time = rowOf a .time; all = rowOf a .count; ours = rowOf a .ours; author = rowOf a .author })
+unfolding addAnchor
+the-last-history-entry-after-an-add-is-the-anchor's-row a v = last-snoc (v .history) _
 
 -- the entry that `last_imported_anchor_info_at_ct` answers is the last that a trim leaves
 pub last-some : {A : Type 0} (y : A) (l : List A) (o : Option A) → orElse (lastOf (y ∷ l)) o ≡ lastOf (y ∷ l)

@@ -65,13 +65,7 @@ fn trim(tables: &[u8], area: &[u8], text: &mut [u8; 131072], run: Run, ct: u64) 
 }
 
 // An entry to the history alone, on the part of the area that is lent.
-fn info(
-    tables: &mut [u8; 14912],
-    area: &[u8],
-    text: &mut [u8; 131072],
-    run: Run,
-    p: &[u8],
-) -> Run {
+fn info(tables: &mut [u8; 14912], area: &[u8], text: &mut [u8; 131072], run: Run, p: &[u8]) -> Run {
     let session = run.session;
     let n = run.area;
     if area.len() < n {

@@ -1,29 +1,43 @@
 -- Document 01's six steps, where they are easily misread: each law is a sentence of the paper about one step.
-use Prim.Native.Nat.{ℕ, _+_}
-use mathlib.Core.Path.{_≡_, refl, ap, _∙_}
-use mathlib.Core.Bool.{Bool, true, false, not}
-use mathlib.Core.List.{List, []}
+use Prim.Native.Nat.{ℕ, zero, suc, _+_, _≤_, _<_}
+use mathlib.Core.Path.{_≡_, refl, sym, ap, _∙_}
+use mathlib.Core.Bool.{Bool, true, false, not, _||_}
+use mathlib.Core.List.{List, [], _∷_}
 use native.Mathlib.Omega.{arith}
 use lib.Dec.{eqb, ltb}
-use borrow.Author.Tests.{eq-eqb, le-ltb}
-use Rattle.rows.proofs.Laws.{pick-yes, pick-no}
+use borrow.Author.Tests.{eq-eqb, le-ltb, le-leb, lt-leb}
+use Rattle.rows.proofs.Laws.{pick-yes, pick-no, no-later, or-none}
 use Rattle.ext_types.specs.declared.ChainTime.{ChainTime}
 use Rattle.ext_types.specs.declared.ExternalKey.{ExternalKey}
 use Rattle.ext_types.specs.Keys.{keyAbove, keyEqual}
 use Rattle.ext_types.specs.declared.Seconds.{Seconds}
 use Rattle.ext_types.specs.Time.{expiredAt, millisOf}
 use Rattle.shard_ident.specs.declared.ShardIdent.{ShardIdent}
+use Rattle.shard_ident.specs.Shard.{shardNumber}
+use Rattle.router.specs.Router.{routesNumber}
+use Rattle.cache_rules.specs.Rules.{areaBytes}
+use Rattle.messages_buffer.specs.Fullness.{limitsNumber, partitionsNumber, limitedNumber, firstNo}
 use Rattle.messages_buffer.specs.declared.ExternalsPartitionRangeReaderState.{ExternalsPartitionRangeReaderState}
 use Rattle.range_rules.specs.declared.Context.{Context}
 use Rattle.range_rules.specs.declared.Walk.{Walk}
 use Rattle.range_rules.specs.declared.RangeRead.{RangeRead}
 use Rattle.range_rules.specs.declared.ProcessedTo.{ProcessedTo}
 use Rattle.range_rules.specs.declared.ReadNextExternalsMode.{ReadNextExternalsMode}
+use Rattle.range_rules.specs.declared.ReadNextExternalsMode.the-variants.{ToTheEnd}
+use Rattle.range_rules.specs.declared.LastChainTime.the-variants.{Nothing}
 use Rattle.range_rules.specs.declared.ExternalsRangeReaderState.{ExternalsRangeReaderState}
 use Rattle.range_rules.specs.declared.Verdict.the-variants.{Keep, Buffer, Refuse}
-use Rattle.range_rules.specs.Rules.{Outcome, keyAt, nextKey, endReached, raised, advanced, ends, judge, more, readOne, bufferOne, after, popped, offsetIn, lookKey, looked, expired, leave, afterPop, isWhole, finished, anchorRead, contextOf, entryOf}
+use Rattle.range_rules.specs.Rules.{Outcome, keyAt, withPlace, nextKey, endReached, raised, advanced, ends, stopped, noKey, noProcessed, judge, more, readOne, bufferOne, after, popped, offsetIn, lookKey, looked, expired, leave, afterPop, isWhole, finished, anchorRead, anchorsRead, contextOf, entryOf, sixSteps, rangeAfter, rangeQuestions}
+
+abbrev zeros : List ℕ
+zeros = 0 ∷ 0 ∷ 0 ∷ 0 ∷ 0 ∷ 0 ∷ 0 ∷ 0 ∷ []
 
 -- ---- at entry
+-- `noKey` is where the first range of all begins
+pub no-key-is-below-the-first : (key : ExternalKey) → keyAbove noKey key ≡ false
+unfolding keyAbove
+no-key-is-below-the-first key = or-none _ _ (le-ltb (key .«anchor_id») 0 (omega arith)) (sym (no-later (eqb 0 (key .«anchor_id»)) _ (le-ltb (key .«msgs_offset») 0 (omega arith))))
+
 -- "Fix the position and saved end at entry."
 module _ (shard : ShardIdent) (limits : List ℕ) (processed : List ProcessedTo) (timeout : Seconds) (mode : ReadNextExternalsMode) (range : ExternalsRangeReaderState) (room : ℕ) (full : Bool) where
   abbrev fixed : Context
@@ -42,13 +56,75 @@ module _ (shard : ShardIdent) (limits : List ℕ) (processed : List ProcessedTo)
   pub a-read-starts-at-the-range's-position-and-to : (entryOf range full .walk .place .position ≡ range .«current_position») × (entryOf range full .walk .place .to ≡ range .to)
   a-read-starts-at-the-range's-position-and-to = (refl, refl)
 
+  -- so an anchor that step 2 pops does not end it
+  pub a-read-does-not-begin-ended : entryOf range full .ended ≡ false
+  a-read-does-not-begin-ended = refl
+
+-- the questions before the steps, in their order
+module _ (n : ℕ) (shard : ShardIdent) (routes limits : List ℕ) (five : ℕ) (range : ExternalsRangeReaderState) (active : Bool) where
+  pub a-short-message-area-is-refused-first : n < 33792 → rangeQuestions n shard routes limits five range active ≡ 1
+  unfolding firstNo
+  a-short-message-area-is-refused-first h = rw (lt-leb areaBytes n h)
+
+  module _ (long : 33792 ≤ n) (two : shardNumber shard ≡ 0) (three : routesNumber routes ≡ 0) (four : limitsNumber limits ≡ 0) (cache : five ≡ 0) (ranges : partitionsNumber (range .«by_partitions») ≡ 0) where
+    pub without-a-transaction-question-9-refuses-before-10 : active ≡ false → rangeQuestions n shard routes limits five range active ≡ 9
+    unfolding firstNo
+    without-a-transaction-question-9-refuses-before-10 e = rw (le-leb areaBytes n long, two, three, four, cache, ranges, e)
+
+    pub question-10-comes-last : active ≡ true → rangeQuestions n shard routes limits five range active ≡ limitedNumber limits (range .«by_partitions»)
+    unfolding firstNo
+    question-10-comes-last e = rw (le-leb areaBytes n long, two, three, four, cache, ranges, e) (only (limitedNumber limits (range .«by_partitions»)))
+      where
+        only : (k : ℕ) → firstNo (k ∷ []) ≡ k
+        only zero = refl
+        only (suc k) = refl
+
+-- ---- step 1
+module _ (x : Context) (routes : List ℕ) (range : ExternalsRangeReaderState) where
+  abbrev untouched : RangeRead
+  untouched = sixSteps x routes range [] .value
+
+  pub a-read-of-an-empty-cache-ends-fully-read : (untouched .«fully_read» ≡ true) × (untouched .ended ≡ true)
+  unfolding anchorsRead
+  a-read-of-an-empty-cache-ends-fully-read = (refl, refl)
+
+  pub a-read-of-an-empty-cache-answers-0-with-no-pop-no-byte-and-no-count :
+      (untouched .walk .number ≡ 0) × (untouched .pops ≡ 0) × (untouched .walk .buffers .used ≡ 0) × (untouched .last ≡ Nothing) × (untouched .walk .counts ≡ record { read = zeros; expired = zeros; buffered = zeros })
+  unfolding anchorsRead
+  a-read-of-an-empty-cache-answers-0-with-no-pop-no-byte-and-no-count = (refl, refl, refl, refl, refl)
+
+  pub a-read-of-an-empty-cache-only-marks-the-range :
+      rangeAfter range untouched
+      ≡ record {
+        seqno = range .seqno;
+        from = range .from;
+        to = range .to;
+        «current_position» = range .«current_position»;
+        «chain_time» = range .«chain_time»;
+        «fully_read» = true;
+        «by_partitions» = range .«by_partitions»;
+      }
+  unfolding anchorsRead
+  a-read-of-an-empty-cache-only-marks-the-range = refl
+
 -- ---- step 2
 module _ (x : Context) (routes : List ℕ) (id : ℕ) (time : ChainTime) (l : List (List ℕ)) (r : RangeRead) where
   pub a-skipped-anchor-is-popped-and-changes-nothing-else : ltb id (x .position .«anchor_id») ≡ true → anchorRead x routes id time l r .value ≡ popped r
   unfolding anchorRead
   a-skipped-anchor-is-popped-and-changes-nothing-else e = ap (λ (s : Outcome RangeRead). s .value) (pick-yes _ _ _ e)
 
+  pub a-skipped-anchor-leaves-the-marks-and-the-last-chain-time : ltb id (x .position .«anchor_id») ≡ true
+      → (anchorRead x routes id time l r .value .«fully_read» ≡ r .«fully_read») × (anchorRead x routes id time l r .value .ended ≡ r .ended) × (anchorRead x routes id time l r .value .last ≡ r .last)
+  a-skipped-anchor-leaves-the-marks-and-the-last-chain-time e =
+      let h = a-skipped-anchor-is-popped-and-changes-nothing-else e in
+      (ap (λ (q : RangeRead). q .«fully_read») h, ap (λ (q : RangeRead). q .ended) h, ap (λ (q : RangeRead). q .last) h)
+
 -- ---- step 3
+-- the key and the mark of the anchor before are forgotten, so what they were at entry does not count
+pub a-look-at-an-anchor-begins-anew : (x : Context) (id : ℕ) (w : Walk) (key : ExternalKey) (mark : Bool) → looked x id (withPlace (record { key = key; reached = mark; position = w .place .position; to = w .place .to }) w) ≡ looked x id w
+unfolding looked
+a-look-at-an-anchor-begins-anew x id w key mark = refl
+
 pub on-the-position's-own-anchor-the-offset-is-the-position's : (position : ExternalKey) → offsetIn position (position .«anchor_id») ≡ position .«msgs_offset»
 on-the-position's-own-anchor-the-offset-is-the-position's position = pick-yes _ _ _ (eq-eqb (position .«anchor_id») _ refl)
 
@@ -77,6 +153,10 @@ module _ (x : Context) (routes : List ℕ) (id : ℕ) (time : ChainTime) (l : Li
   unfolding anchorRead expired looked
   an-expired-anchor's-position-is-its-id-and-offset = ap (λ (s : Outcome RangeRead). s .value .walk .place .position) (pick-no _ _ _ i ∙ pick-yes _ _ _ old)
 
+  pub an-expired-anchor-leaves-the-fully-read-mark : anchorRead x routes id time l r .value .«fully_read» ≡ r .«fully_read»
+  unfolding anchorRead expired
+  an-expired-anchor-leaves-the-fully-read-mark = ap (λ (s : Outcome RangeRead). s .value .«fully_read») (pick-no _ _ _ i ∙ pick-yes _ _ _ old)
+
   pub an-expired-anchor's-messages-are-not-put : anchorRead x routes id time l r .entries ≡ []
   unfolding anchorRead
   an-expired-anchor's-messages-are-not-put = ap (λ (s : Outcome RangeRead). s .entries) (pick-no _ _ _ i ∙ pick-yes _ _ _ old)
@@ -92,8 +172,24 @@ to-is-raised-when-passed key to e = pick-yes _ _ _ e
 pub to-stays-when-not-passed : (key to : ExternalKey) → keyAbove key to ≡ false → raised key to ≡ to
 to-stays-when-not-passed key to e = pick-no _ _ _ e
 
+-- the saved end ends no walk `ToTheEnd`
+pub to-the-end-only-a-full-buffer-stops-the-messages : (x : Context) (w : Walk) → w .number ≡ 0 → x .mode ≡ ToTheEnd → stopped x w ≡ w .buffers .full
+unfolding stopped
+to-the-end-only-a-full-buffer-stops-the-messages x w n e =
+    ap (λ (b : Bool). not b || (w .buffers .full || ends (x .mode) (w .place .reached))) (eq-eqb (w .number) 0 n)
+    ∙ (ap (λ (m : ReadNextExternalsMode). w .buffers .full || ends m (w .place .reached)) e ∙ or-no (w .buffers .full))
+  where
+    or-no : (b : Bool) → (b || false) ≡ b
+    or-no true = refl
+    or-no false = refl
+
 -- questions 12, 13 and 14, in their order
 module _ (q : ProcessedTo) (partition : ExternalsPartitionRangeReaderState) (key : ExternalKey) (room : Bool) where
+  -- past the table there is none
+  pub a-partition-that-is-not-there-has-no-processed-position : judge noProcessed partition key room ≡ Refuse 12
+  unfolding judge
+  a-partition-that-is-not-there-has-no-processed-position = refl
+
   pub question-12-is-asked-of-every-message-of-ours : q .present ≡ false → judge q partition key room ≡ Refuse 12
   unfolding judge
   question-12-is-asked-of-every-message-of-ours e = pick-no _ _ _ e

@@ -1,15 +1,15 @@
 -- Laws of the router.
 use Prim.Native.Nat.{ℕ, zero, suc, _+_, _-_, _*_, _/_, _%_, _≤_, _<_}
 use mathlib.Core.Path.{_≡_, refl, sym, ap, _∙_}
-use mathlib.Core.List.{List, [], _∷_, List·Memᴰ, List·Memᴰ·head, List·Memᴰ·tail, List·Memᴰ·cases-cons, List·Memᴰ·not-nil}
+use mathlib.Core.List.{List, [], _∷_, _++_, List·Memᴰ, List·Memᴰ·head, List·Memᴰ·tail, List·Memᴰ·cases-cons, List·Memᴰ·not-nil}
 use mathlib.Core.Bool.{Bool, true, false, not, _&&_, _||_}
 use mathlib.Core.Logic.{⊎-elim, _⊎_, inl, inr}
 use native.Mathlib.Omega.{arith}
 use native.Mathlib.Nat.{mul-div-le}
-use lib.Dec.{leb, eqb}
-use lib.ListN.{length, take, drop, getD, length-drop, length-take}
+use lib.Dec.{leb, ltb, eqb}
+use lib.ListN.{length, take, drop, getD, length-drop, length-take, length-append}
 use lib.Seq.{take-all, getD-drop, getD-take, take-take}
-use borrow.Author.Tests.{leb-true, le-leb, lt-leb}
+use borrow.Author.Tests.{leb-true, leb-false, le-leb, lt-leb, lt-ltb, le-ltb}
 use Rattle.rows.specs.Rows.{pick, part, rows, sameBytes, wholeRows, later, findRow}
 use Rattle.rows.specs.declared.Found.{Found}
 use Rattle.rows.specs.declared.Found.the-variants.{At, Nothing}
@@ -151,6 +151,111 @@ sound-routes routes e = go (eqb (length routes % 34) 0) (leb (length (routeRows 
     go true false p c q d r e = absurd (omega arith)
     go false b p c q d r e = absurd (omega arith)
 
+-- ---- one row more behind the others
+same-either-way : (a b : List ℕ) → sameBytes a b ≡ sameBytes b a
+same-either-way a b = go (sameBytes a b) refl (sameBytes b a) refl
+  where
+    go : (x : Bool) → sameBytes a b ≡ x → (y : Bool) → sameBytes b a ≡ y → x ≡ y
+    go true e true f = refl
+    go true e false f = sym (same-refl b) ∙ (rw (same-true a b e) at f)
+    go false e true f = sym (sym (same-refl a) ∙ (rw (same-true b a f) at e))
+    go false e false f = refl
+
+listed-behind : (a : List ℕ) (l : List (List ℕ)) (p : List ℕ) → listed a (l ++ (p ∷ [])) ≡ (listed a l || sameBytes (addressOf p) a)
+unfolding listed
+listed-behind a [] p = go (sameBytes (take 33 p) a)
+  where
+    go : (x : Bool) → (x || false) ≡ x
+    go true = refl
+    go false = refl
+listed-behind a (r ∷ l) p = rw (listed-behind a l p) (go (sameBytes (take 33 r) a))
+  where
+    go : (x : Bool) → (x || (listed a l || sameBytes (take 33 p) a)) ≡ ((x || listed a l) || sameBytes (take 33 p) a)
+    go true = refl
+    go false = refl
+
+none-twice-behind : (l : List (List ℕ)) (p : List ℕ) → noneTwice l ≡ true → noneTwice (l ++ (p ∷ [])) ≡ not (listed (addressOf p) l)
+unfolding noneTwice listed
+none-twice-behind [] p e = refl
+none-twice-behind (r ∷ l) p e =
+    let h = and-true (not (listed (take 33 r) l)) (noneTwice l) e in
+    rw (none-twice-behind l p (h .1), listed-behind (take 33 r) l p, same-either-way (take 33 r) (take 33 p)) (go (listed (take 33 r) l) (h .0) (sameBytes (take 33 p) (take 33 r)) (listed (take 33 p) l))
+  where
+    go : (a : Bool) → not a ≡ true → (s b : Bool) → (not (a || s) && not b) ≡ not (s || b)
+    go false f true b = refl
+    go false f false b = refl
+    go true f s b = absurd (let z : _≡_ {A = ℕ} 0 1 = cc in omega arith)
+
+partitions-behind : (l : List (List ℕ)) (p : List ℕ) → partitionsExist l ≡ true → partitionsExist (l ++ (p ∷ [])) ≡ leb (routePartition p) 7
+unfolding partitionsExist
+partitions-behind [] p e = go (leb (getD p 33 0) 7)
+  where
+    go : (x : Bool) → (x && true) ≡ x
+    go true = refl
+    go false = refl
+partitions-behind (r ∷ l) p e = let h = and-true (leb (getD r 33 0) 7) (partitionsExist l) e in rw (h .0) (partitions-behind l p (h .1))
+
+one-more-fits : (n : ℕ) → leb (n + 1) maxRoutes ≡ ltb n maxRoutes
+one-more-fits n = go (leb (n + 1) maxRoutes) refl
+  where
+    go : (b : Bool) → leb (n + 1) maxRoutes ≡ b → b ≡ ltb n maxRoutes
+    go true e = let h = leb-true (n + 1) maxRoutes e in sym (lt-ltb n maxRoutes (omega arith))
+    go false e = let h = leb-false (n + 1) maxRoutes e in sym (le-ltb n maxRoutes (omega arith))
+
+-- Behind rows that pass question 3 one more passes it where it has a place, its partition is at most 7 and none before it
+-- has its address.
+pub question-3-of-one-row-more : (l : List (List ℕ)) (p : List ℕ) → soundRoutes l ≡ true → soundRoutes (l ++ (p ∷ [])) ≡ (ltb (length l) maxRoutes && (leb (routePartition p) 7 && not (listed (addressOf p) l)))
+unfolding soundRoutes
+question-3-of-one-row-more l p e =
+    let h = and-true (noneTwice l) (partitionsExist l) (and-true (leb (length l) maxRoutes) _ e .1) in
+    rw (length-append l (p ∷ []), one-more-fits (length l), none-twice-behind l p (h .0), partitions-behind l p (h .1)) (ap (λ (b : Bool). ltb (length l) maxRoutes && b) (go (not (listed (addressOf p) l)) (leb (routePartition p) 7)))
+  where
+    go : (a b : Bool) → (a && b) ≡ (b && a)
+    go true true = refl
+    go true false = refl
+    go false true = refl
+    go false false = refl
+
+-- ---- the first rows
+listed-among-more : (a : List ℕ) (l m : List (List ℕ)) → not (listed a (l ++ m)) ≡ true → not (listed a l) ≡ true
+unfolding listed
+listed-among-more a [] m e = refl
+listed-among-more a (r ∷ l) m e = go (sameBytes (take 33 r) a) (listed-among-more a l m) e
+  where
+    go : (b : Bool) → (not (listed a (l ++ m)) ≡ true → not (listed a l) ≡ true) → not (b || listed a (l ++ m)) ≡ true → not (b || listed a l) ≡ true
+    go true h e = e
+    go false h e = h e
+
+none-twice-first : (l m : List (List ℕ)) → noneTwice (l ++ m) ≡ true → noneTwice l ≡ true
+unfolding noneTwice
+none-twice-first [] m e = refl
+none-twice-first (r ∷ l) m e =
+    let h = and-true (not (listed (take 33 r) (l ++ m))) (noneTwice (l ++ m)) e in
+    rw (listed-among-more (take 33 r) l m (h .0), none-twice-first l m (h .1))
+
+partitions-first : (l m : List (List ℕ)) → partitionsExist (l ++ m) ≡ true → partitionsExist l ≡ true
+unfolding partitionsExist
+partitions-first [] m e = refl
+partitions-first (r ∷ l) m e = let h = and-true (leb (getD r 33 0) 7) (partitionsExist (l ++ m)) e in rw (h .0, partitions-first l m (h .1))
+
+pub the-first-rows-of-a-table-that-passes-question-3-pass-it : (l m : List (List ℕ)) → soundRoutes (l ++ m) ≡ true → soundRoutes l ≡ true
+unfolding soundRoutes
+the-first-rows-of-a-table-that-passes-question-3-pass-it l m e =
+    let few = and-true (leb (length (l ++ m)) maxRoutes) _ e in
+    let h = and-true (noneTwice (l ++ m)) (partitionsExist (l ++ m)) (few .1) in
+    let n = leb-true (length (l ++ m)) maxRoutes (few .0) in
+    rw (le-leb (length l) maxRoutes (omega (arith, n, length-append l m)), none-twice-first l m (h .0), partitions-first l m (h .1))
+
+-- ---- the number of routes
+pub up-to-256-routes-only-addresses-and-partitions-are-asked : (l : List (List ℕ)) → length l ≤ 256 → soundRoutes l ≡ (noneTwice l && partitionsExist l)
+unfolding soundRoutes
+up-to-256-routes-only-addresses-and-partitions-are-asked l h = rw (le-leb (length l) maxRoutes h)
+
+pub two-hundred-and-fifty-seven-routes-are-refused : (l : List (List ℕ)) → 257 ≤ length l → soundRoutes l ≡ false
+unfolding soundRoutes
+two-hundred-and-fifty-seven-routes-are-refused l h = rw (lt-leb (length l) maxRoutes (omega arith))
+
+-- ---- addresses and their partitions
 mem-listed : (r : List ℕ) (l : List (List ℕ)) → List·Memᴰ r l → listed (addressOf r) l ≡ true
 unfolding listed
 mem-listed r [] m = absurd (List·Memᴰ·not-nil m)
