@@ -2,6 +2,7 @@
 use Prim.Native.Nat.{ℕ, _+_}
 use mathlib.Core.Bool.{Bool, true, false, not, _||_}
 use mathlib.Core.List.{List, [], _∷_, _++_}
+use mathlib.Core.Option.{Option, none, some}
 use lib.Dec.{ltb, leb, eqb}
 use lib.ListN.{length, getD, drop, set, replicate}
 use Rattle.rows.specs.Rows.{pick, le}
@@ -26,6 +27,7 @@ use Rattle.range_rules.specs.declared.ReadCounts.{ReadCounts}
 use Rattle.range_rules.specs.declared.ExternalsRangeReaderState.{ExternalsRangeReaderState}
 use Rattle.range_rules.specs.declared.ReadNextExternalsMode.{ReadNextExternalsMode}
 use Rattle.range_rules.specs.declared.ReadNextExternalsMode.the-variants.{ToTheEnd, ToPreviuosReadTo}
+use Rattle.range_rules.specs.declared.LastChainTime.{LastChainTime}
 use Rattle.range_rules.specs.declared.LastChainTime.the-variants.{Nothing, Time}
 use Rattle.range_rules.specs.declared.Verdict.{Verdict}
 use Rattle.range_rules.specs.declared.Verdict.the-variants.{Keep, Buffer, Refuse}
@@ -41,6 +43,11 @@ silent a = record { value = a; entries = [] }
 -- what came before, and then t
 abbrev pub followed : {A : Type 0} → Outcome A → Outcome A → Outcome A
 followed s t = record { value = t .value; entries = s .entries ++ t .entries }
+
+-- ---- the last chain time: milliseconds where a read saw one, else none
+abbrev pub timeSaid : LastChainTime → Option ℕ
+timeSaid Nothing = none
+timeSaid (Time time) = some (time .0)
 
 -- ---- places
 -- Step 3: "The saved end is reached when the id is above its id, or equal with equal offset."

@@ -8,6 +8,8 @@ use lib.ListN.{length}
 use lib.Seq.{sets}
 use native.Mathlib.Omega.{arith}
 use borrow.Author.Tests.{le-leb, lt-leb, ne-eqb}
+use mathlib.Core.Option.{Option, none, some}
+use Rattle.ext_types.specs.declared.ExternalKey.{ExternalKey}
 use Rattle.rows.specs.Rows.{pick}
 use Rattle.shard_ident.specs.Shard.{shardNumber}
 use Rattle.router.specs.Router.{routesNumber}
@@ -15,10 +17,10 @@ use Rattle.messages_buffer.specs.Fullness.{limitsNumber, partitionsNumber, limi
 use Rattle.anchors_cache.specs.declared.AnchorsCache.{AnchorsCache}
 use Rattle.anchors_cache.specs.declared.AnchorsCacheTransaction.{AnchorsCacheTransaction}
 use Rattle.anchors_cache.specs.declared.Done.{Done}
-use Rattle.cache_rules.specs.Rules.{Cache, ask, areaBytes}
+use Rattle.cache_rules.specs.Rules.{Cache, ask, areaBytes, Info, lastOf}
 use Rattle.anchors_cache.specs.Tables.{view}
 use Rattle.anchors_cache.specs.Windows.{poppedTimes}
-use Rattle.anchors_cache.specs.Calls.{placesIn, validCache, refusal, onZero, answer, withCache, popsCall}
+use Rattle.anchors_cache.specs.Calls.{placesIn, validCache, refusal, onZero, answer, withCache, popsCall, infoFound}
 use Rattle.anchors_cache.proofs.Asked.{parts}
 use Rattle.cache_laws.specs.Book.{popTimes, Reading}
 use Rattle.cache_laws.proofs.Views.{view-popped-times}
@@ -26,15 +28,15 @@ use Rattle.cache_laws.proofs.Kept.{whole, times-parts, holds-view}
 use Rattle.range_laws.proofs.Entered.{accepted}
 use Rattle.range_rules.specs.declared.ExternalsRangeReaderState.{ExternalsRangeReaderState}
 use Rattle.range_rules.specs.declared.ReadNextExternalsMode.{ReadNextExternalsMode}
-use Rattle.range_rules.specs.Rules.{Outcome}
+use Rattle.range_rules.specs.Rules.{Outcome, keyAt}
 use Rattle.range_reader.specs.Calls.{askedNumber, rangeRead}
 use Rattle.messages_buffer.proofs.Laws.{first-zero, first-alone}
 use Rattle.reader_rules.specs.declared.Fixed.{Fixed}
 use Rattle.reader_rules.specs.declared.Imported.{Imported}
 use Rattle.reader_rules.specs.declared.RangesRead.{RangesRead}
 use Rattle.reader_rules.specs.State.{settingsNumber, settledNumber}
-use Rattle.reader_rules.specs.Rules.{rangesRead, fixedOf, atEntry}
-use Rattle.externals_reader.specs.Calls.{askedOfRead, windowRead, importedIn, allRead, readerAfter, ReadAllResult, unchanged, allResult, readAllCall}
+use Rattle.reader_rules.specs.Rules.{rangesRead, fixedOf, atEntry, importedSaid}
+use Rattle.externals_reader.specs.Calls.{askedOfRead, windowRead, importedIn, allRead, readerAfter, ReadAllResult, unchanged, allResult, readAllCall, endOf}
 use Rattle.reader_laws.specs.AllRanges.{HandedAll, importedOf, bookFixed, rangeSteps, bookRange, bookAllRead, bookAsked, bookAllNumber, bookAllPops, readAllOnWindow}
 use Rattle.reader_rules.proofs.Turns.{two-ways-to-read-a-range-that-agree-read-all-alike}
 
@@ -46,9 +48,21 @@ first-more zero (suc b) c = refl
 first-more (suc a) b c = refl
 
 -- ---- the last imported entry
+abbrev countedEnd : Option Info → Option ExternalKey
+countedEnd none = none
+countedEnd (some i) = some (keyAt (i .id) (i .all))
+
 pub the-last-imported-entry-is-the-history's-last : (tables area : List ℕ) (c : AnchorsCache) → importedIn tables c ≡ importedOf (view tables area c)
 unfolding view
 the-last-imported-entry-is-the-history's-last tables area c = refl
+
+-- in the paper's values: its id and message count
+pub the-block's-own-range-is-moved-to-the-last-entry's-id-and-message-count : (v : Cache) → importedSaid (importedOf v) ≡ countedEnd (lastOf (v .history))
+the-block's-own-range-is-moved-to-the-last-entry's-id-and-message-count v = go (lastOf (v .history))
+  where
+    go : (o : Option Info) → importedSaid (endOf (infoFound o)) ≡ countedEnd o
+    go none = refl
+    go (some i) = refl
 
 module _ (tables area : List ℕ) (t : AnchorsCacheTransaction) (active : t .active ≡ true) (big : areaBytes ≤ length area)
     (now : validCache (placesIn (length area)) tables (t .cache) ≡ true) (then : validCache (placesIn (length area)) tables (t .undo) ≡ true) where

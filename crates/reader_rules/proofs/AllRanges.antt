@@ -7,6 +7,7 @@ use native.Mathlib.Omega.{arith}
 use lib.Dec.{eqb, ltb, leb}
 use lib.ListN.{length, getD, set}
 use borrow.Author.Tests.{le-leb, eq-eqb, ne-eqb}
+use Rattle.cache_rules.specs.Rules.{orElse}
 use Rattle.rows.specs.Rows.{pick}
 use Rattle.rows.proofs.Laws.{pick-yes, pick-no, no-here, no-later, yes-here, yes-later, or-here, or-later, or-none}
 use Rattle.ext_types.specs.declared.ChainTime.{ChainTime}
@@ -19,7 +20,7 @@ use Rattle.range_rules.specs.declared.ReadCounts.{ReadCounts}
 use Rattle.range_rules.specs.declared.LastChainTime.{LastChainTime}
 use Rattle.range_rules.specs.declared.LastChainTime.the-variants.{Nothing, Time}
 use Rattle.range_rules.specs.declared.ReadNextExternalsMode.the-variants.{ToTheEnd, ToPreviuosReadTo}
-use Rattle.range_rules.specs.Rules.{Outcome, silent, followed, noKey}
+use Rattle.range_rules.specs.Rules.{Outcome, silent, followed, noKey, timeSaid}
 use Rattle.reader_rules.specs.declared.ExternalsPartitionReaderState.{ExternalsPartitionReaderState}
 use Rattle.reader_rules.specs.declared.GetNextMessageGroupMode.the-variants.{Continue, Refill}
 use Rattle.reader_rules.specs.declared.Imported.the-variants.{End}
@@ -325,3 +326,8 @@ the-saved-last-chain-time-changes-only-if-one-was-seen saved = refl
 
 pub a-seen-chain-time-is-saved : (time : ChainTime) (saved : LastChainTime) → timeSaved (Time time) saved ≡ Time time
 a-seen-chain-time-is-saved time saved = refl
+
+-- in the paper's values: the time that was seen, else the one saved before
+pub the-saved-time-is-the-one-seen-else-the-one-before : (seen saved : LastChainTime) → timeSaid (timeSaved seen saved) ≡ orElse (timeSaid seen) (timeSaid saved)
+the-saved-time-is-the-one-seen-else-the-one-before Nothing saved = refl
+the-saved-time-is-the-one-seen-else-the-one-before (Time time) saved = refl

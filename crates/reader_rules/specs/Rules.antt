@@ -3,6 +3,7 @@
 use Prim.Native.Nat.{ℕ, zero, suc, _+_, _-_}
 use mathlib.Core.Bool.{Bool, true, false, not, _&&_, _||_}
 use mathlib.Core.List.{List, [], _∷_, map}
+use mathlib.Core.Option.{Option, none, some}
 use lib.Dec.{ltb, leb, eqb}
 use lib.ListN.{getD, set, take}
 use lib.Seq.{sets}
@@ -148,6 +149,11 @@ movedToEnd (End key) r =
       «fully_read» = r .«fully_read»;
       «by_partitions» = r .«by_partitions»;
     }
+
+-- the key that a range's position and "to" become, or none
+abbrev pub importedSaid : Imported → Option ExternalKey
+importedSaid imported.Nothing = none
+importedSaid (End key) = some key
 
 -- "When a read in this call leaves the block's own range fully read and history is nonempty, position and "to" become
 -- the last imported entry's id and message count."
