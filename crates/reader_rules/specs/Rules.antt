@@ -71,8 +71,8 @@ stateEntered limits s =
 -- ---- the next range
 -- the last of the first len ranges, if there is one
 abbrev pub lastOr : {A : Type 0} → A → (ExternalsRangeReaderState → A) → ℕ → List ExternalsRangeReaderState → A
-lastOr none of zero ranges = none
-lastOr none of (suc k) ranges = of (getD ranges k noRange)
+lastOr empty of zero ranges = empty
+lastOr empty of (suc k) ranges = of (getD ranges k noRange)
 
 -- an empty buffer, both offsets at the current one
 abbrev pub nextPartition : ExternalsPartitionReaderState → ExternalsPartitionRangeReaderState
