@@ -76,6 +76,12 @@ typedef struct {
     uint32_t all_exts_count, our_exts_count;
 } ext_anchor_info;
 
+/* A history entry with its author. */
+typedef struct {
+    ext_anchor_info info;
+    uint8_t author[32];
+} ext_history_entry;
+
 /* ---- the reader. Where a partition is not present its numbers are free. */
 typedef struct {
     uint32_t count, skip_offset, processed_offset;
@@ -212,6 +218,7 @@ ext_anchor_shown ext_pop_front(ext_transaction *t, const uint8_t *tables, size_t
 ext_info_shown ext_remove_last_imported_above(ext_transaction *t, const uint8_t *tables, size_t tables_len, const uint8_t *area, size_t area_len, ext_chain_time ct);
 /* `messages`: 33 bytes each. */
 uint8_t ext_add(ext_transaction *t, uint8_t *tables, size_t tables_len, uint8_t *area, size_t area_len, ext_anchor anchor, uint32_t our_exts_count, const uint8_t *messages, size_t messages_len);
+uint8_t ext_add_imported_anchor_info(ext_transaction *t, uint8_t *tables, size_t tables_len, const uint8_t *area, size_t area_len, ext_history_entry entry);
 ext_info_shown ext_last_imported_anchor_info(const uint8_t *tables, size_t tables_len, ext_transaction t);
 ext_info_shown ext_last_imported_anchor_info_at_ct(const uint8_t *tables, size_t tables_len, ext_transaction t, ext_chain_time ct);
 ext_anchor_shown ext_get(const uint8_t *tables, size_t tables_len, ext_transaction t, size_t index);

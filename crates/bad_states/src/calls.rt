@@ -1,5 +1,6 @@
 // Every call of the cache on one state, and the numbers that they answer.
 use crate::state;
+use anchors_cache::AnchorInfo;
 use anchors_cache::AnchorsCacheTransaction;
 use anchors_cache::Done;
 use anchors_cache::MempoolAnchor;
@@ -89,6 +90,50 @@ pub fn add(n: usize, m: usize, t: AnchorsCacheTransaction, new: New) -> u8 {
     number
 }
 
+fn info_part(tables: &mut [u8], area: &[u8], t: AnchorsCacheTransaction) -> u8 {
+    let e = AnchorInfo {
+        id: 1000,
+        ct: ChainTime(5000),
+        all_exts_count: 1,
+        our_exts_count: 1,
+    };
+    answered(
+        t,
+        anchors_cache::add_imported_anchor_info(tables, area, t, e, [9u8; 32]),
+    )
+}
+
+fn info_lent(
+    tables: &mut [u8],
+    area: &[u8],
+    n: usize,
+    m: usize,
+    t: AnchorsCacheTransaction,
+) -> u8 {
+    if tables.len() < n {
+        return CHANGED;
+    }
+    if area.len() < m {
+        return CHANGED;
+    }
+    info_part(&mut tables[0..n], &area[0..m], t)
+}
+
+// An entry to the history alone; a refused one leaves every byte of the tables.
+fn add_info(n: usize, m: usize, t: AnchorsCacheTransaction) -> u8 {
+    let mut tables = state::tables();
+    let area = state::area();
+    let number = info_lent(&mut tables, &area, n, m, t);
+    if number == 0 {
+        return 0;
+    }
+    let before = state::tables();
+    if !check::same(&tables, &before) {
+        return CHANGED;
+    }
+    number
+}
+
 fn pop_front(tables: &[u8], area: &[u8], t: AnchorsCacheTransaction) -> Done {
     let a = anchors_cache::pop_front(tables, area, t);
     let s = a.state;
@@ -107,14 +152,14 @@ fn trim(tables: &[u8], area: &[u8], t: AnchorsCacheTransaction) -> Done {
     }
 }
 
-fn ask_cache(numbers: &mut [u8; 16], tables: &[u8], area: &[u8], t: AnchorsCacheTransaction) {
+fn ask_cache(numbers: &mut [u8; 17], tables: &[u8], area: &[u8], t: AnchorsCacheTransaction) {
     numbers[1] = answered(t, pop_front(tables, area, t));
     numbers[2] = answered(t, anchors_cache::pop_fronts(tables, area, t, 2));
     numbers[3] = answered(t, trim(tables, area, t));
     numbers[4] = answered(t, anchors_cache::clear(tables, area, t));
 }
 
-fn ask_transaction(numbers: &mut [u8; 16], tables: &[u8], area: &[u8], t: AnchorsCacheTransaction) {
+fn ask_transaction(numbers: &mut [u8; 17], tables: &[u8], area: &[u8], t: AnchorsCacheTransaction) {
     numbers[5] = answered(t, anchors_cache::open(tables, area, t));
     numbers[6] = answered(t, anchors_cache::commit(tables, area, t));
     numbers[7] = answered(t, anchors_cache::rollback(tables, area, t));
@@ -122,7 +167,7 @@ fn ask_transaction(numbers: &mut [u8; 16], tables: &[u8], area: &[u8], t: Anchor
     numbers[9] = anchors_cache::check_cache(tables, area, t);
 }
 
-fn ask_infos(numbers: &mut [u8; 16], tables: &[u8], t: AnchorsCacheTransaction) {
+fn ask_infos(numbers: &mut [u8; 17], tables: &[u8], t: AnchorsCacheTransaction) {
     let last = anchors_cache::last_imported_anchor_info(tables, t);
     numbers[10] = last.number;
     let at_ct = anchors_cache::last_imported_anchor_info_at_ct(tables, t, ChainTime(5000));
@@ -142,7 +187,7 @@ fn ask_infos(numbers: &mut [u8; 16], tables: &[u8], t: AnchorsCacheTransaction) 
 }
 
 fn ask_lent(
-    numbers: &mut [u8; 16],
+    numbers: &mut [u8; 17],
     tables: &[u8],
     area: &[u8],
     n: usize,
@@ -163,14 +208,15 @@ fn ask_lent(
 }
 
 // The numbers in the order of the README.
-pub fn numbers(n: usize, m: usize, t: AnchorsCacheTransaction) -> [u8; 16] {
+pub fn numbers(n: usize, m: usize, t: AnchorsCacheTransaction) -> [u8; 17] {
     let new = New {
         id: 1000,
         ours: 1,
         bytes: 33,
     };
-    let mut all = [CHANGED; 16];
+    let mut all = [CHANGED; 17];
     all[0] = add(n, m, t, new);
+    all[16] = add_info(n, m, t);
     let tables = state::tables();
     let area = state::area();
     ask_lent(&mut all, &tables, &area, n, m, t);

@@ -22,10 +22,10 @@ fn put_answer(out: &mut [u8; 16384], at: usize, number: u8) -> usize {
     text::put_number(out, at, number as u64)
 }
 
-fn put_answers(out: &mut [u8; 16384], at: usize, numbers: [u8; 16]) -> usize {
+fn put_answers(out: &mut [u8; 16384], at: usize, numbers: [u8; 17]) -> usize {
     let mut to = at;
     let mut i = 0;
-    while i < 16 {
+    while i < 17 {
         to = put_answer(out, to, numbers[i]);
         i += 1;
     }

@@ -157,6 +157,7 @@ impl Driver<'_> {
                 self.count("in_range", number(&yes));
                 writeln!(self.text, "in_range {}", u8::from(sure(yes))).unwrap();
             }
+            0x117 => self.info(f),
             _ => {
                 let reader = *self.e.reader();
                 let done = self.e.renew(reader);
@@ -197,6 +198,13 @@ impl Driver<'_> {
         f.u16();
         let done = self.lent(|e| e.add(anchor, ours, f.0));
         self.quiet("add", done)
+    }
+
+    fn info(&mut self, mut f: Fields<'_>) {
+        let info = AnchorInfo { id: f.u32(), ct: ChainTime(f.u64()), all_exts_count: f.u32(), our_exts_count: f.u32() };
+        let entry = HistoryEntry { info, author: f.bytes(32).try_into().unwrap() };
+        let done = self.lent(|e| e.add_imported_anchor_info(entry));
+        self.line("info", &done);
     }
 
     fn act(&mut self, what: u8) {

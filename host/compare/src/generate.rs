@@ -234,7 +234,8 @@ impl Session {
     fn history(&mut self) {
         let id = if self.r.chance(500) { self.next_id } else { self.r.below(10) as u32 };
         let (ct, all, ours, author) = (self.chain_time(), self.r.pick(&[0, 1, 4, u32::MAX]), self.r.pick(&[0, 1]), self.r.below(256) as u8);
-        self.rec(0x106, payload().u32(id).u64(ct).u32(all).u32(ours).bytes(&[author; 32]));
+        let kind = if self.open || self.r.chance(500) { 0x117 } else { 0x106 };
+        self.rec(kind, payload().u32(id).u64(ct).u32(all).u32(ours).bytes(&[author; 32]));
     }
 
     fn anchors(&mut self, n: usize) {
@@ -476,7 +477,7 @@ impl Session {
             }
             95 => self.short_area(),
             96 => self.route(),
-            97 if !self.open || self.r.chance(30) => self.history(),
+            97 => self.history(),
             98 if !self.open || self.r.chance(30) => self.anchors(1),
             99 if !self.open || self.r.chance(200) => self.act(OPEN),
             _ => self.act(READ),

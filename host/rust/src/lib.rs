@@ -208,6 +208,12 @@ impl Externals {
         done(number, ())
     }
 
+    /// An entry to the history alone.
+    pub fn add_imported_anchor_info(&mut self, entry: HistoryEntry) -> Result<(), Refused> {
+        let number = unsafe { raw::ext_add_imported_anchor_info(&mut self.state.transaction, self.tables.as_mut_ptr(), self.tables.len(), self.area.as_ptr(), self.area.len(), entry) };
+        done(number, ())
+    }
+
     pub fn last_imported_anchor_info(&self) -> Result<Option<(AnchorInfo, [u8; 32])>, Refused> {
         let a = unsafe { raw::ext_last_imported_anchor_info(self.tables.as_ptr(), self.tables.len(), self.state.transaction) };
         done(a.number, a.found.then_some((a.info, a.author)))

@@ -11,6 +11,7 @@ extern "C" {
     pub fn ext_pop_front(t: *mut Transaction, tables: *const u8, tables_len: usize, area: *const u8, area_len: usize) -> AnchorShown;
     pub fn ext_remove_last_imported_above(t: *mut Transaction, tables: *const u8, tables_len: usize, area: *const u8, area_len: usize, ct: ChainTime) -> InfoShown;
     pub fn ext_add(t: *mut Transaction, tables: *mut u8, tables_len: usize, area: *mut u8, area_len: usize, anchor: MempoolAnchor, our_exts_count: u32, messages: *const u8, messages_len: usize) -> u8;
+    pub fn ext_add_imported_anchor_info(t: *mut Transaction, tables: *mut u8, tables_len: usize, area: *const u8, area_len: usize, entry: HistoryEntry) -> u8;
     pub fn ext_last_imported_anchor_info(tables: *const u8, tables_len: usize, t: Transaction) -> InfoShown;
     pub fn ext_last_imported_anchor_info_at_ct(tables: *const u8, tables_len: usize, t: Transaction, ct: ChainTime) -> InfoShown;
     pub fn ext_get(tables: *const u8, tables_len: usize, t: Transaction, index: usize) -> AnchorShown;

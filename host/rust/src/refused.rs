@@ -24,6 +24,7 @@ struct Lent {
     taken: u32,
 }
 
+const ENTRY: HistoryEntry = HistoryEntry { info: AnchorInfo { id: 9, ct: ChainTime(9000), all_exts_count: 3, our_exts_count: 4 }, author: [9; 32] };
 const KEY: ExternalKey = ExternalKey { anchor_id: 77, msgs_offset: 78 };
 
 impl Lent {
@@ -130,6 +131,7 @@ calls! {
     pop_front [0 1 5] |l, t, a| raw::ext_pop_front(&mut l.state.transaction, t.0, t.1, a.0, a.1).number;
     trim [0 1 5] |l, t, a| raw::ext_remove_last_imported_above(&mut l.state.transaction, t.0, t.1, a.0, a.1, ChainTime(1500)).number;
     add [0 1 5 6 7 8 9] |l, t, a| raw::ext_add(&mut l.state.transaction, t.0, t.1, a.0, a.1, l.anchor, l.ours, l.messages.as_ptr(), l.messages.len());
+    add_info [0 1 5 8 9] |l, t, a| raw::ext_add_imported_anchor_info(&mut l.state.transaction, t.0, t.1, a.0, a.1, ENTRY);
     last_info [0 5] |l, t, a| raw::ext_last_imported_anchor_info(t.0, t.1, l.state.transaction).number;
     info_at_ct [0 5] |l, t, a| raw::ext_last_imported_anchor_info_at_ct(t.0, t.1, l.state.transaction, ChainTime(1500)).number;
     get [0 5] |l, t, a| raw::ext_get(t.0, t.1, l.state.transaction, 0).number;
@@ -183,6 +185,7 @@ const CHANGES: &[fn(&mut Lent)] = &[
     |l| l.tables.truncate(100),
     |l| l.state.transaction.cache.first = usize::MAX,
     |l| l.state.transaction.cache.len = 33,
+    |l| (l.state.transaction.cache.history_first, l.state.transaction.cache.history_len) = (0, 256),
     |l| l.state.transaction.undo.history_first = usize::MAX,
     |l| l.state.transaction.active = !l.state.transaction.active,
     |l| (l.state.reader.for_shard_id.prefix, l.settings.shard.prefix) = (0, 0),

@@ -44,6 +44,8 @@ plain! {
     pub struct CachedAnchor { pub id: u32, pub chain_time: ChainTime, pub ours: u32, pub count: usize, pub place: usize, } 40
     /// An entry of the imported history.
     pub struct AnchorInfo { pub id: u32, pub ct: ChainTime, pub all_exts_count: u32, pub our_exts_count: u32, } 24
+    /// A history entry with its author.
+    pub struct HistoryEntry { pub info: AnchorInfo, pub author: [u8; 32], } 56
     pub struct RangePartition { pub count: u32, pub skip_offset: u32, pub processed_offset: u32, pub present: bool, } 16
     pub struct Range { pub seqno: u32, pub from: ExternalKey, pub to: ExternalKey, pub current_position: ExternalKey, pub chain_time: ChainTime, pub fully_read: bool, pub by_partitions: [RangePartition; PARTITIONS], } 200
     pub struct Partition { pub processed_to: ExternalKey, pub curr_processed_offset: u32, pub present: bool, } 24

@@ -4,10 +4,10 @@ use Rattle.bad_states.proofs.put_answers.Statement.{statement}
 use Rattle.bad_states.proofs.put_answers.Tie as tie
 
 abbrev Inv-loop : tie.InvT-loop
-Inv-loop out₀ at numbers to₀ i₀ t7 out to i = i ≤ 16
+Inv-loop out₀ at numbers to₀ i₀ t7 out to i = i ≤ 17
 
 abbrev μ-loop : tie.MeasureT-loop
-μ-loop out₀ at numbers to₀ i₀ t7 out to i = 16 - i
+μ-loop out₀ at numbers to₀ i₀ t7 out to i = 17 - i
 
 loop-holds : tie.Need-loop-holds Inv-loop μ-loop
 loop-holds c = search needs
