@@ -103,13 +103,7 @@ fn info_part(tables: &mut [u8], area: &[u8], t: AnchorsCacheTransaction) -> u8 {
     )
 }
 
-fn info_lent(
-    tables: &mut [u8],
-    area: &[u8],
-    n: usize,
-    m: usize,
-    t: AnchorsCacheTransaction,
-) -> u8 {
+fn info_lent(tables: &mut [u8], area: &[u8], n: usize, m: usize, t: AnchorsCacheTransaction) -> u8 {
     if tables.len() < n {
         return CHANGED;
     }

@@ -9,7 +9,7 @@ use lib.ListN.{length, getD, set, take, drop, replicate, length-replicate, lengt
 use lib.Seq.{sets, set-set, getD-set-same, take-all, length-take-le, length-sets}
 use borrow.Rule.Slice.PartMut.{putMid, midOf, put-same}
 use borrow.Author.Tests.{eq-eqb, ne-eqb, eqb-false}
-use Rattle.reader_rules.proofs.Sums.{added-at-most, weaker}
+use Rattle.reader_rules.proofs.Sums.{added-at-most, more-at-most}
 use Rattle.rows.specs.Rows.{pick}
 use Rattle.rows.proofs.Laws.{pick-yes, pick-no, sets-append}
 use Rattle.messages_buffer.specs.Fullness.{firstNo}
@@ -293,7 +293,7 @@ module _ (one : OneRange) (fits : (pops : ℕ) (mode : ReadNextExternalsMode) (r
     pub len : s .value .len ≡ r .len
 
   more : (k : ℕ) → After k (x .room) r → After (k + 1) (x .room) r
-  more k a = record { few = weaker (maxMessages * k) (maxMessages * (k + 1)) _ (omega arith) (a .few); pops = omega (arith, a .pops); used = a .used }
+  more k a = record { few = more-at-most (maxMessages * k) (maxMessages * (k + 1)) _ (omega arith) (a .few); pops = omega (arith, a .pops); used = a .used }
 
   turn-added : (k : ℕ) → After k (x .room) r → (s : Outcome Told) → Fits (x .room - r .«so_far» .used) s → Kept (k + 1) (record { value = afterTurn x i r (s .value); entries = s .entries })
   unfolding afterTurn
@@ -303,7 +303,7 @@ module _ (one : OneRange) (fits : (pops : ℕ) (mode : ReadNextExternalsMode) (r
       go true e =
           record {
             after = record {
-              few = weaker (maxMessages * k + maxMessages) (maxMessages * (k + 1)) _ (omega arith) (added-at-most (r .«so_far» .counts) (s .value .counts) (maxMessages * k) maxMessages (a .few) (f .counts));
+              few = more-at-most (maxMessages * k + maxMessages) (maxMessages * (k + 1)) _ (omega arith) (added-at-most (r .«so_far» .counts) (s .value .counts) (maxMessages * k) maxMessages (a .few) (f .counts));
               pops = omega (arith, a .pops, f .pops);
               used = omega (arith, a .used, f .used);
             };

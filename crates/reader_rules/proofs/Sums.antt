@@ -39,8 +39,8 @@ added-at-most a b k m f g =
       buffered = sums-at-most (a .buffered) (b .buffered) k m (f .buffered) (g .buffered);
     }
 
-pub weaker : (k m : ℕ) (c : ReadCounts) → k ≤ m → AtMost k c → AtMost m c
-weaker k m c h a = record { read = λ i. omega (arith, h, a .read i); expired = λ i. omega (arith, h, a .expired i); buffered = λ i. omega (arith, h, a .buffered i) }
+pub more-at-most : (k m : ℕ) (c : ReadCounts) → k ≤ m → AtMost k c → AtMost m c
+more-at-most k m c h a = record { read = λ i. omega (arith, h, a .read i); expired = λ i. omega (arith, h, a .expired i); buffered = λ i. omega (arith, h, a .buffered i) }
 
 -- 16 ranges of at most 1,024 cached messages
 abbrev pub maxSum : ℕ
@@ -59,8 +59,8 @@ turn-summed x k i r a f h =
     let e : maxMessages * (r .len - suc k) + maxMessages ≤ maxMessages * (r .len - k) = omega (arith, h .left) in
     let l : k ≤ r .len = omega (arith, h .left) in
     pick-both (Summed k) (eqb (a .number) 0) _ _
-    (record { few = weaker _ _ (countsAdded c (a .counts)) e (added-at-most c (a .counts) (maxMessages * (r .len - suc k)) maxMessages (h .few) f); left = l; slots = h .slots })
-    (record { few = weaker _ _ c (omega (arith, e)) (h .few); left = l; slots = h .slots })
+    (record { few = more-at-most _ _ (countsAdded c (a .counts)) e (added-at-most c (a .counts) (maxMessages * (r .len - suc k)) maxMessages (h .few) f); left = l; slots = h .slots })
+    (record { few = more-at-most _ _ c (omega (arith, e)) (h .few); left = l; slots = h .slots })
 
 -- the next range is one of the 16: it is appended below the open-ranges limit
 pub each-sum-is-at-most-1024-for-each-of-16-ranges : (one : OneRange) (x : Fixed) → openRangesLimit (x .params) ≤ maxRanges
@@ -75,15 +75,15 @@ each-sum-is-at-most-1024-for-each-of-16-ranges one x limit fits r slots h =
     (λ k i p g. turn-summed x k i p _ (fits _ _ _ _) g)
     next
     r
-    (record { few = weaker 0 (maxMessages * (r .len - r .len)) (r .«so_far» .counts) (omega arith) h; left = omega arith; slots = slots }) in
-    weaker (maxMessages * (q .len - 0)) maxSum (q .«so_far» .counts) (omega (arith, s .slots)) (s .few)
+    (record { few = more-at-most 0 (maxMessages * (r .len - r .len)) (r .«so_far» .counts) (omega arith) h; left = omega arith; slots = slots }) in
+    more-at-most (maxMessages * (q .len - 0)) maxSum (q .«so_far» .counts) (omega (arith, s .slots)) (s .few)
   where
     passed : (k : ℕ) (p : RangesRead) → Summed (suc k) p → Summed k p
-    passed k p g = record { few = weaker (maxMessages * (p .len - suc k)) (maxMessages * (p .len - k)) (p .«so_far» .counts) (omega arith) (g .few); left = omega (arith, g .left); slots = g .slots }
+    passed k p g = record { few = more-at-most (maxMessages * (p .len - suc k)) (maxMessages * (p .len - k)) (p .«so_far» .counts) (omega arith) (g .few); left = omega (arith, g .left); slots = g .slots }
 
     next : (p : RangesRead) → wantsNext x p ≡ true → Summed 0 p → Summed 1 (withNextRange x p)
     next p w g =
-        record { few = weaker (maxMessages * (p .len - 0)) (maxMessages * (p .len + 1 - 1)) (p .«so_far» .counts) (omega arith) (g .few); left = omega arith; slots = omega (arith, limit, wanted x p w .0) }
+        record { few = more-at-most (maxMessages * (p .len - 0)) (maxMessages * (p .len + 1 - 1)) (p .«so_far» .counts) (omega arith) (g .few); left = omega arith; slots = omega (arith, limit, wanted x p w .0) }
 
 -- ---- the number
 module _ (N : ℕ → Type 0) (none : N 0) (x : Fixed) where
