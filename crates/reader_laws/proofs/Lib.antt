@@ -4,3 +4,4 @@ pub mod Laws
 pub mod Conservation
 pub mod TableOfEight
 pub mod AllPassed
+pub mod OneReader
