@@ -6,7 +6,7 @@ use mathlib.Core.List.{List, [], _∷_}
 use native.Mathlib.Omega.{arith}
 use lib.Dec.{eqb, ltb, leb}
 use lib.ListN.{length, getD, set}
-use borrow.Author.Tests.{le-leb, eq-eqb, ne-eqb}
+use borrow.Author.Tests.{le-leb, eq-eqb, ne-eqb, eqb-true}
 use Rattle.rows.specs.Rows.{pick}
 use Rattle.rows.proofs.Laws.{pick-yes, pick-no, no-here, no-later, yes-here, yes-later, or-here, or-later, or-none}
 use Rattle.ext_types.specs.declared.ChainTime.{ChainTime}
@@ -177,6 +177,9 @@ pub where-no-partition-reaches-it-a-range-is-skipped : (ps : List ExternalsParti
 unfolding beforeSkipOffsets
 where-no-partition-reaches-it-a-range-is-skipped [] qs = (refl, refl)
 where-no-partition-reaches-it-a-range-is-skipped (p ∷ ps) qs = (refl, refl)
+
+pub the-block's-own-range-is-that-of-its-seqno-alone : (x : Fixed) (seqno : ℕ) → (isOwn x (x .«block_seqno») ≡ true) × (isOwn x seqno ≡ true → seqno ≡ x .«block_seqno»)
+the-block's-own-range-is-that-of-its-seqno-alone x seqno = (eq-eqb (x .«block_seqno») _ refl, λ e. eqb-true seqno (x .«block_seqno») e)
 
 module _ (x : Fixed) (range : ExternalsRangeReaderState) where
   pub in-continue-a-range-is-skipped-for-its-offsets-alone : x .mode ≡ Continue → isSkipped x range ≡ beforeSkipOffsets (x .«by_partitions») (range .«by_partitions»)
