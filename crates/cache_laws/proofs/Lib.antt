@@ -3,3 +3,4 @@ pub mod Kept
 pub mod Claim
 pub mod Corollaries
 pub mod Free
+pub mod Answers

@@ -32,9 +32,9 @@ pub the-greatest-count-of-records-stays : (s : Session) → recordCounted (withR
 unfolding recordCounted
 the-greatest-count-of-records-stays s = refl
 
-pub at-first-no-lent-byte-is-text-or-a-route : (text routes : List ℕ) → (take (newSession .at) text ≡ []) × (take (newSession .«routes_len») routes ≡ [])
+pub at-first-no-lent-byte-is-text-or-a-route-and-nothing-has-stopped : (text routes : List ℕ) → (take (newSession .at) text ≡ []) × (take (newSession .«routes_len») routes ≡ []) × (newSession .stopped ≡ false)
 unfolding newSession
-at-first-no-lent-byte-is-text-or-a-route text routes = (refl, refl)
+at-first-no-lent-byte-is-text-or-a-route-and-nothing-has-stopped text routes = (refl, refl, refl)
 
 pub a-reader-with-its-own-shard-stays : (r : ExternalsReader) → withShard r (r .«for_shard_id») ≡ r
 a-reader-with-its-own-shard-stays r = refl

@@ -1,0 +1,88 @@
+-- What the cache's calls show of an anchor or an entry, field by field, and what they show where they are refused.
+use Prim.Native.Nat.{ℕ, _≤_}
+use mathlib.Core.Path.{_≡_, refl}
+use mathlib.Core.Bool.{true, false}
+use mathlib.Core.List.{List, [], _∷_}
+use mathlib.Core.Option.{none, some}
+use lib.ListN.{length, replicate}
+use borrow.Author.Tests.{le-leb}
+use Rattle.cache_rules.specs.Rules.{Info, Row, soundRow, total}
+use Rattle.anchors_cache.specs.declared.AnchorsCache.{AnchorsCache}
+use Rattle.anchors_cache.specs.declared.AnchorsCacheTransaction.{AnchorsCacheTransaction}
+use Rattle.anchors_cache.specs.declared.CachedAnchor.{CachedAnchor}
+use Rattle.anchors_cache.specs.declared.AnchorInfo.{AnchorInfo}
+use Rattle.anchors_cache.specs.declared.FoundAnchor.the-variants as anchor
+use Rattle.anchors_cache.specs.declared.FoundInfo.the-variants as info
+use Rattle.anchors_cache.specs.declared.FoundId.the-variants as id
+use Rattle.anchors_cache.specs.Tables.{historyBytes, tablesBytes, anchorAt, infoAt}
+use Rattle.anchors_cache.specs.Calls.{soundAnchor, cachedAnchor, rowAt, infoRowAt, withCache, shownAnchor, shownInfo, infoAnswer, idAnswer, getAnswer, flagAnswer, popAnswer, trimAnswer, rowFor, closedTransaction}
+
+-- ---- an anchor and an entry with a field of each size
+abbrev row : ℕ → Row
+row count = record { id = 7; time = 1000; author = replicate 32 9; ours = 2; count = count }
+
+abbrev entry : Info
+entry = record { id = 7; time = 1000; all = 3; ours = 2; author = replicate 32 9 }
+
+abbrev shownRow : ℕ → ℕ → CachedAnchor
+shownRow count place = record { id = 7; «chain_time» = record { 0 = 1000 }; ours = 2; count = count; place = place }
+
+abbrev shownEntry : AnchorInfo
+shownEntry = record { id = 7; ct = record { 0 = 1000 }; «all_exts_count» = 3; «our_exts_count» = 2 }
+
+-- the second anchor's messages stand behind the first one's 3, from place 5 on
+pub an-anchor-is-shown-with-the-place-of-its-messages :
+    (shownAnchor 0 5 (row 3 ∷ row 4 ∷ []) ≡ record { number = 0; anchor = anchor.Anchor (shownRow 3 5); author = replicate 32 9 })
+    × (shownAnchor 1 5 (row 3 ∷ row 4 ∷ []) ≡ record { number = 0; anchor = anchor.Anchor (shownRow 4 8); author = replicate 32 9 }) × (shownAnchor 2 5 (row 3 ∷ row 4 ∷ []) ≡ record { number = 0; anchor = anchor.Nothing; author = replicate 32 0 })
+unfolding shownAnchor total
+an-anchor-is-shown-with-the-place-of-its-messages = (refl, refl, refl)
+
+pub an-entry-is-shown-with-its-author : (shownInfo (some entry) ≡ record { number = 0; info = info.Info shownEntry; author = replicate 32 9 }) × (shownInfo none ≡ record { number = 0; info = info.Nothing; author = replicate 32 0 })
+unfolding shownInfo
+an-entry-is-shown-with-its-author = (refl, refl)
+
+pub an-id-is-shown-with-its-chain-time : (idAnswer 0 (some entry) ≡ record { number = 0; last = id.Id 7 (record { 0 = 1000 }) }) × (idAnswer 0 none ≡ record { number = 0; last = id.Nothing })
+unfolding idAnswer
+an-id-is-shown-with-its-chain-time = (refl, refl)
+
+-- ---- refused
+pub a-refused-call-shows-nothing :
+    (getAnswer 5 0 5 (row 3 ∷ []) ≡ record { number = 5; anchor = anchor.Nothing; author = replicate 32 0 }) × (infoAnswer 5 (some entry) ≡ record { number = 5; info = info.Nothing; author = replicate 32 0 })
+    × (idAnswer 5 (some entry) ≡ record { number = 5; last = id.Nothing }) × (flagAnswer 5 true ≡ record { number = 5; flag = false })
+unfolding getAnswer infoAnswer idAnswer flagAnswer
+a-refused-call-shows-nothing = (refl, refl, refl, refl)
+
+module _ (tables : List ℕ) (t : AnchorsCacheTransaction) (c : AnchorsCache) where
+  pub a-refused-pop-and-a-refused-trim-show-nothing-and-leave-the-state :
+      (popAnswer 5 tables t ≡ record { number = 5; front = anchor.Nothing; author = replicate 32 0; state = t }) × (trimAnswer 5 tables t c ≡ record { number = 5; last = info.Nothing; author = replicate 32 0; state = t })
+  unfolding popAnswer trimAnswer
+  a-refused-pop-and-a-refused-trim-show-nothing-and-leave-the-state = (refl, refl)
+
+  pub a-transaction-with-its-own-cache-stays : withCache t (t .cache) ≡ t
+  a-transaction-with-its-own-cache-stays = refl
+
+-- ---- rows of the tables
+pub past-the-tables-every-number-is-0 : (place : ℕ) (tables : List ℕ)
+    → (rowAt 32 place tables ≡ record { id = 0; «chain_time» = record { 0 = 0 }; ours = 0; count = 0; place = place }) × (infoRowAt 256 tables ≡ record { id = 0; ct = record { 0 = 0 }; «all_exts_count» = 0; «our_exts_count» = 0 })
+unfolding rowAt infoRowAt
+past-the-tables-every-number-is-0 place tables = (refl, refl)
+
+pub the-tables-are-14912-bytes-and-the-anchors-begin-at-13312 : (tablesBytes ≡ 14912) × (historyBytes ≡ 13312)
+the-tables-are-14912-bytes-and-the-anchors-begin-at-13312 = (refl, refl)
+
+-- in tables of 14,912 bytes
+pub the-last-row-of-each-table-is-read : (place : ℕ) (tables : List ℕ) → 14912 ≤ length tables → (rowAt 31 place tables .id ≡ anchorAt 31 tables .id) × (infoRowAt 255 tables .id ≡ infoAt 255 tables .id)
+unfolding rowAt infoRowAt
+the-last-row-of-each-table-is-read place tables h = rw (le-leb tablesBytes (length tables) h) (refl, refl)
+
+-- ---- questions
+pub an-anchor-of-the-code-is-asked-as-the-rule's-row : (low place : ℕ) (a : Row) → soundAnchor low (cachedAnchor place a) ≡ soundRow low a
+unfolding soundRow
+an-anchor-of-the-code-is-asked-as-the-rule's-row low place a = refl
+
+pub a-new-transaction-is-not-open-and-has-no-mark : (closedTransaction .active ≡ false) × (closedTransaction .committed ≡ false)
+a-new-transaction-is-not-open-and-has-no-mark = (refl, refl)
+
+-- 66 bytes are two messages
+pub an-added-anchor's-row-is-its-own : rowFor (record { id = 7; «chain_time» = record { 0 = 1000 }; author = replicate 32 9 }) 2 66 ≡ row 2
+an-added-anchor's-row-is-its-own = refl
