@@ -4,3 +4,4 @@ pub mod Claim
 pub mod Corollaries
 pub mod Free
 pub mod Said
+pub mod Answers

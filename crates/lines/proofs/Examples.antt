@@ -29,6 +29,21 @@ pub range-line : (r : ExternalsRangeReaderState)
 unfolding rangeLine line spaced decimal places
 range-line r = refl
 
+-- "to" stands before the position: range 5 2 3 4 6 1
+pub read-range-line : (r : ExternalsRangeReaderState)
+    → rangeLine (record {
+      seqno = 5;
+      «from» = r .«from»;
+      to = record { «anchor_id» = 2; «msgs_offset» = 3 };
+      «current_position» = record { «anchor_id» = 4; «msgs_offset» = 6 };
+      «chain_time» = r .«chain_time»;
+      «fully_read» = true;
+      «by_partitions» = r .«by_partitions»;
+    })
+    ≡ 114 ∷ 97 ∷ 110 ∷ 103 ∷ 101 ∷ 32 ∷ 53 ∷ 32 ∷ 50 ∷ 32 ∷ 51 ∷ 32 ∷ 52 ∷ 32 ∷ 54 ∷ 32 ∷ 49 ∷ 10 ∷ []
+unfolding rangeLine line spaced decimal places
+read-range-line r = refl
+
 -- end 2 2 1
 pub end-line : (first from base : ℕ)
     → endLine (record { first = first; len = 2; «history_first» = from; «history_len» = 2; base = base; pending = true })

@@ -6,3 +6,4 @@ pub mod TableOfEight
 pub mod AllPassed
 pub mod AllKept
 pub mod ReaderKept
+pub mod OneReader

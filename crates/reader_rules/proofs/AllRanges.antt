@@ -6,7 +6,7 @@ use mathlib.Core.List.{List, [], _∷_}
 use native.Mathlib.Omega.{arith}
 use lib.Dec.{eqb, ltb, leb}
 use lib.ListN.{length, getD, set}
-use borrow.Author.Tests.{le-leb, eq-eqb, ne-eqb}
+use borrow.Author.Tests.{le-leb, eq-eqb, ne-eqb, eqb-true}
 use Rattle.cache_rules.specs.Rules.{orElse}
 use Rattle.rows.specs.Rows.{pick}
 use Rattle.rows.proofs.Laws.{pick-yes, pick-no, no-here, no-later, yes-here, yes-later, or-here, or-later, or-none}
@@ -179,6 +179,9 @@ unfolding beforeSkipOffsets
 where-no-partition-reaches-it-a-range-is-skipped [] qs = (refl, refl)
 where-no-partition-reaches-it-a-range-is-skipped (p ∷ ps) qs = (refl, refl)
 
+pub the-block's-own-range-is-that-of-its-seqno-alone : (x : Fixed) (seqno : ℕ) → (isOwn x (x .«block_seqno») ≡ true) × (isOwn x seqno ≡ true → seqno ≡ x .«block_seqno»)
+the-block's-own-range-is-that-of-its-seqno-alone x seqno = (eq-eqb (x .«block_seqno») _ refl, λ e. eqb-true seqno (x .«block_seqno») e)
+
 module _ (x : Fixed) (range : ExternalsRangeReaderState) where
   pub in-continue-a-range-is-skipped-for-its-offsets-alone : x .mode ≡ Continue → isSkipped x range ≡ beforeSkipOffsets (x .«by_partitions») (range .«by_partitions»)
   unfolding isSkipped
@@ -236,6 +239,13 @@ before-the-first-turn-all-counts-as-read s = (refl, refl, refl, refl, refl)
 pub a-refusal-gives-only-the-number : (s : SoFar) → numbered (s .number) s ≡ s
 a-refusal-gives-only-the-number s = refl
 
+-- and where that is known already, nothing
+pub a-skipped-range-changes-only-whether-all-are-read : (s : SoFar) → (notAllRead s .«all_read» ≡ false) × (s .«all_read» ≡ false → notAllRead s ≡ s)
+a-skipped-range-changes-only-whether-all-are-read s = (refl, λ e. ap said (sym e))
+  where
+    said : Bool → SoFar
+    said b = record { number = s .number; pops = s .pops; used = s .used; «all_read» = b; stopped = s .stopped; last = s .last; counts = s .counts }
+
 module _ (s : SoFar) (a : Told) where
   pub a-full-buffer-in-a-range-fully-read-does-not-end-the-call : a .range .«fully_read» ≡ true → added s a .stopped ≡ false
   a-full-buffer-in-a-range-fully-read-does-not-end-the-call e = sym (no-later (a .full) _ (ap not e))
@@ -264,6 +274,10 @@ module _ (s : SoFar) (a : Told) where
 module _ (x : Fixed) (i : ℕ) (r : RangesRead) (a : Told) (e : eqb (a .number) 0 ≡ false) where
   abbrev after : RangesRead
   after = afterTurn x i r a
+
+  pub a-refused-range's-number-is-the-call's : after .«so_far» .number ≡ a .number
+  unfolding afterTurn
+  a-refused-range's-number-is-the-call's = rw e
 
   pub a-refused-range-leaves-what-the-turns-before-came-to : (after .«so_far» .pops ≡ r .«so_far» .pops) × ((after .«so_far» .used ≡ r .«so_far» .used) × ((after .«so_far» .counts ≡ r .«so_far» .counts) × (after .ranges ≡ r .ranges)))
   unfolding afterTurn

@@ -5,7 +5,8 @@ use mathlib.Core.Path.{_≡_, refl, sym, ap}
 use mathlib.Core.Bool.{Bool, true, false, _||_}
 use mathlib.Core.List.{List}
 use lib.Dec.{ltb}
-use lib.ListN.{length}
+use lib.ListN.{length, drop}
+use lib.Seq.{set-getD, take-at, drop-at}
 use borrow.Author.Tests.{le-leb, lt-leb, lt-ltb, le-ltb}
 use Rattle.rows.proofs.Laws.{pick-yes, pick-no, no-here, no-later, yes-here, or-here}
 use Rattle.ext_types.specs.declared.ExternalKey.{ExternalKey}
@@ -13,7 +14,9 @@ use Rattle.ext_types.specs.Keys.{keyEqual}
 use Rattle.messages_buffer.specs.declared.ExternalsPartitionRangeReaderState.{ExternalsPartitionRangeReaderState}
 use Rattle.range_rules.specs.declared.ExternalsRangeReaderState.{ExternalsRangeReaderState}
 use Rattle.reader_rules.specs.declared.ExternalsPartitionReaderState.{ExternalsPartitionReaderState}
-use Rattle.reader_rules.specs.Offsets.{withOffsets, withCount, dropped, skipRaised, offsetRaised, withOffset, withProcessedTo, withRecords, fromPosition, marked, raisedRange}
+use Rattle.reader_rules.specs.declared.ExternalsReader.{ExternalsReader}
+use Rattle.reader_rules.specs.State.{heldRanges, noReaderPartition, withState}
+use Rattle.reader_rules.specs.Offsets.{withOffsets, withCount, dropped, skipRaised, offsetRaised, withOffset, withProcessedTo, withRecords, fromPosition, marked, raisedRange, withRanges, withHeld, onPartition}
 use Rattle.reader_rules.proofs.Each.{each-length}
 
 -- ---- a record
@@ -90,3 +93,24 @@ module _ (r : ExternalsRangeReaderState) where
 
   pub a-finalized-range-has-eight-records : (ps : List ExternalsPartitionReaderState) (l : List ExternalsRangeReaderState) → length (raisedRange ps l r .«by_partitions») ≡ 8
   a-finalized-range-has-eight-records ps l = each-length 8 _
+
+-- ---- the reader
+module _ (s : ExternalsReader) where
+  abbrev slots : List ExternalsRangeReaderState
+  slots = s .«reader_state» .ranges
+
+  pub a-reader-with-its-own-ranges-stays : withRanges slots (s .«reader_state» .len) s ≡ s
+  a-reader-with-its-own-ranges-stays = refl
+
+  pub a-reader-with-its-own-partition-stays : (i : ℕ) → onPartition i (λ p. p) s ≡ s
+  a-reader-with-its-own-partition-stays i = ap held (set-getD (s .«reader_state» .«by_partitions») i noReaderPartition)
+    where
+      held : List ExternalsPartitionReaderState → ExternalsReader
+      held ps = withState s (record { ranges = slots; len = s .«reader_state» .len; «by_partitions» = ps; «last_read_to_anchor_chain_time» = s .«reader_state» .«last_read_to_anchor_chain_time» })
+
+  module _ (l : List ExternalsRangeReaderState) where
+    pub the-ranges-put-are-the-ranges-held : heldRanges (withHeld l s .«reader_state») ≡ l
+    the-ranges-put-are-the-ranges-held = take-at l (drop (length l) slots) (length l) refl
+
+    pub the-slots-behind-the-ranges-put-stay : drop (length l) (withHeld l s .«reader_state» .ranges) ≡ drop (length l) slots
+    the-slots-behind-the-ranges-put-stay = drop-at l (drop (length l) slots) (length l) refl

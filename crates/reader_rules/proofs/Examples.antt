@@ -3,6 +3,7 @@ use Prim.Native.Nat.{ℕ, zero, suc, _+_, _≤_, _<_}
 use mathlib.Core.Path.{_≡_, refl}
 use mathlib.Core.Bool.{Bool, true, false}
 use mathlib.Core.List.{List, [], _∷_}
+use lib.ListN.{replicate}
 use borrow.Author.Tests.{le-leb, lt-leb}
 use Rattle.shard_ident.specs.Shard.{shardNumber}
 use Rattle.router.specs.Router.{routesNumber}
@@ -18,7 +19,7 @@ use Rattle.reader_rules.specs.declared.ExternalsReader.{ExternalsReader}
 use Rattle.reader_rules.specs.declared.PartitionTest.the-variants.{InRange, InReader, Unprocessed, Empty, Reached, Collected}
 use Rattle.reader_rules.specs.Each.{each}
 use Rattle.reader_rules.specs.State.{heldRanges, soundRangesFrom, rangesNumber, settingsNumber, openRangesLimit, settledNumber, allQuestions}
-use Rattle.reader_rules.specs.Offsets.{recordOf, lastRange, lastOnly, placeOf, onPlace, onLast, meets, allBelow, partitionsMeet, allFullyRead, tallyFrom, tallyOf, shownBy}
+use Rattle.reader_rules.specs.Offsets.{readerPartition, recordOf, lastRange, lastOnly, placeOf, onPlace, onLast, meets, allBelow, partitionsMeet, allFullyRead, tallyFrom, tallyOf, shownBy}
 
 -- a partition's record in a range: messages in its buffer, skip offset and processed offset
 abbrev holding : ℕ → ℕ → ℕ → ExternalsPartitionRangeReaderState
@@ -107,6 +108,9 @@ module _ (a b c : ExternalsRangeReaderState) (f : ExternalsRangeReaderState → 
 
 pub without-a-range-every-partition-is-absent : (i : ℕ) → recordOf i (lastRange []) .present ≡ false
 without-a-range-every-partition-is-absent i = refl
+
+pub a-partition-above-7-is-absent-in-the-reader : (p : ExternalsPartitionReaderState) → readerPartition 8 (replicate 8 p) .present ≡ false
+a-partition-above-7-is-absent-in-the-reader p = refl
 
 pub a-range-is-found-by-its-seqno : (placeOf 7 (rangesFrom 3 6) ≡ 1) × (placeOf 9 (rangesFrom 3 6) ≡ 3)
 unfolding placeOf

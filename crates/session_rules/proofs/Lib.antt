@@ -7,3 +7,4 @@ pub mod TextLengths
 pub mod Ranges
 pub mod Texts
 pub mod LongSteps
+pub mod Examples

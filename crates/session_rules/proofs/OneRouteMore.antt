@@ -7,14 +7,15 @@ use native.Mathlib.Omega.{arith}
 use lib.Dec.{leb, ltb, eqb}
 use lib.ListN.{length, take, drop, getD, length-append}
 use lib.Seq.{length-take-le, sets-eq, take-at}
-use borrow.Author.Tests.{leb-true, eqb-true}
+use borrow.Author.Tests.{leb-true, eqb-true, eq-eqb}
 use Rattle.rows.specs.Rows.{pick, rows, sameBytes, later, findRow}
 use Rattle.rows.specs.declared.Found.{Found}
 use Rattle.rows.specs.declared.Found.the-variants.{At, Nothing}
-use Rattle.rows.proofs.Laws.{rows-length, rows-snoc, written-in}
+use Rattle.rows.proofs.Laws.{pick-yes, rows-length, rows-snoc, written-in}
 use Rattle.router.proofs.Laws.{question-3-of-one-row-more}
 use Rattle.router.specs.Router.{routeRows, listed, noneTwice, partitionsExist, soundRoutes, routesNumber, maxRoutes}
-use Rattle.session_rules.specs.Said.{isNothing, routeNumber, placedNumber, routesWith}
+use Rattle.session_rules.specs.Said.{Said, afterOrBad, isNothing, routeNumber, placedNumber, routesWith, routeSaid, routesAfter}
+use Rattle.session_rules.specs.declared.Session.{Session}
 
 -- a row is found exactly if its address is listed
 listed-found : (a : List ℕ) (l : List (List ℕ)) → length a ≡ 33 → listed a l ≡ not (isNothing (findRow a l))
@@ -82,3 +83,11 @@ pub the-listed-routes-answer-question-3 : (n : ℕ) (routes p : List ℕ) → ro
 the-listed-routes-answer-question-3 n routes p known long e =
     ap routesNumber (a-listed-route-stands-behind-the-others n routes p long e)
     ∙ (question-3-of-the-routes-with-one-more (take n routes) p known long ∙ placed-parts n routes p e .1)
+
+-- what a read is then lent as routes: those before, and the new one
+pub a-taken-route-is-listed-behind-the-others : (s : Session) (routes p : List ℕ) → length p ≡ 34 → placedNumber (s .«routes_len») routes p ≡ 0
+    → take (routeSaid s routes p .session .«routes_len») (routesAfter s routes p) ≡ take (s .«routes_len») routes ++ p
+unfolding routeSaid afterOrBad
+a-taken-route-is-listed-behind-the-others s routes p long e =
+    ap (λ (q : Said). take (q .session .«routes_len») (routesAfter s routes p)) (pick-yes _ _ _ (eq-eqb (placedNumber (s .«routes_len») routes p) 0 e))
+    ∙ a-listed-route-stands-behind-the-others (s .«routes_len») routes p long e
