@@ -930,7 +930,7 @@ def caps(r):
 def with_infos(r, recs):
     """The same records with entries to the history alone (0117) among them, and some put entries as such calls."""
     out = []
-    full = r.randint(2, 1000)    # where the history is filled, in a few sessions
+    full = r.randint(2, 8000)    # where the history is filled, in a few sessions
     for one in recs:
         if one[4:6] == b'\x06\x01' and r.random() < 0.7:
             one = rec(0x117, one[6:])
