@@ -271,14 +271,15 @@ room-of anchors messages history ours count e =
           (ltb-true _ _ (v .0), leb-true _ _ (v .1)),
     )
 
+-- where a refusal by the first questions is the number, a number 0 says that these were answered yes
+pub first-asked : (r number : ℕ) → ((r ≡ 0 → ⊥) → number ≡ r) → number ≡ 0 → r ≡ 0
+first-asked zero number refused e = refl
+first-asked (suc r) number refused e = sym (refused (λ (f : suc r ≡ 0). omega arith)) ∙ e
+
 -- all questions of an add answered yes
 module _ (n : ℕ) (tables : List ℕ) (t : AnchorsCacheTransaction) (id ours k : ℕ) (zeroed : addNumber n tables t id ours k ≡ 0) where
   pub add-refusal : refusal n tables t ≡ 0
-  add-refusal = go (refusal n tables t) refl
-    where
-      go : (m : ℕ) → refusal n tables t ≡ m → m ≡ 0
-      go zero e = refl
-      go (suc m) e = sym e ∙ (sym (add-refused n tables t id ours k (λ (f : refusal n tables t ≡ 0). omega arith)) ∙ zeroed)
+  add-refusal = first-asked _ _ (add-refused n tables t id ours k) zeroed
 
   pub add-yes : (rightSize ours k ≡ true) × (aboveLast id (lastOf (anchorsOf tables (t .cache))) ≡ true)
       × (room (t .cache .len) (usedBy tables (t .cache)) (t .cache .«history_len») ours (k / 33) ≡ true) × (t .active ≡ false)
@@ -310,11 +311,7 @@ two-more true false e = (refl, refl)
 
 module _ (n : ℕ) (tables : List ℕ) (t : AnchorsCacheTransaction) (zeroed : addInfoNumber n tables t ≡ 0) where
   pub info-refusal : refusal n tables t ≡ 0
-  info-refusal = go (refusal n tables t) refl
-    where
-      go : (m : ℕ) → refusal n tables t ≡ m → m ≡ 0
-      go zero e = refl
-      go (suc m) e = sym e ∙ (sym (info-refused n tables t (λ (f : refusal n tables t ≡ 0). omega arith)) ∙ zeroed)
+  info-refusal = first-asked _ _ (info-refused n tables t) zeroed
 
   pub info-yes : (t .cache .«history_len» < maxHistory) × (t .active ≡ false)
   info-yes =

@@ -15,7 +15,7 @@ use Rattle.anchors_cache.specs.Tables.{anchorsOf, view}
 use Rattle.anchors_cache.specs.Windows.{poppedTimes, usedBy}
 use Rattle.anchors_cache.specs.Calls.{placesIn, refusal, refusalAt, onZero, answer, withCache, addNumber, addCall, addInfoNumber, addInfoCall, popAnswer, popCall, popsCall, trimAnswer, trimCall, clearCall, openCall, commitCall, rollbackCall, closeCall}
 use Rattle.anchors_cache.proofs.Laws.{anchors-length, infos-length, rows-of-messages, length-messages}
-use Rattle.anchors_cache.proofs.Asked.{Parts, valid-parts, refusal-zero, at-asked, at-refused, add-asked, info-asked}
+use Rattle.anchors_cache.proofs.Asked.{Parts, valid-parts, refusal-zero, at-asked, at-refused, first-asked, add-asked, info-asked}
 use Rattle.cache_laws.specs.Book.{Book, begin, finish, holds, bookRefusal, bookAdd, bookAddInfo, popTimes, Area, same, short, lend, Call, Reading, reading, enter, entered, bookNumbers, performed, numbers}
 use Rattle.cache_laws.specs.Entries.{popping, poppingMany, trimming, committing, rollingBack, closing, opening, clearing, adding, addingInfo}
 use Rattle.cache_laws.proofs.Views.{view-popped, view-popped-times, view-trimmed}
@@ -364,11 +364,7 @@ opened tables area t z e =
 
 -- an open that answers 0 was refused by none of questions 1 and 5
 pub open-asked : (n : ℕ) (tables : List ℕ) (t : AnchorsCacheTransaction) → refusalAt false n tables t ≡ 0 → refusal n tables t ≡ 0
-open-asked n tables t e = go (refusal n tables t) refl
-  where
-    go : (m : ℕ) → refusal n tables t ≡ m → m ≡ 0
-    go zero h = refl
-    go (suc m) h = sym h ∙ (sym (at-refused n tables t false (λ (f : refusal n tables t ≡ 0). omega arith)) ∙ e)
+open-asked n tables t e = first-asked _ _ (at-refused n tables t false) e
 
 -- Any cache and area for which the questions give open the number 0, any list of calls that follow the book, then a
 -- close with the area of the run:
