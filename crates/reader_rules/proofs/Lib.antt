@@ -2,5 +2,5 @@ pub mod AllRanges
 pub mod Each
 pub mod Finalize
 pub mod Turns
-pub mod ByOffset
+pub mod Offsets
 pub mod Examples

@@ -2,15 +2,17 @@
 use Prim.Native.Nat.{ℕ, _+_, _<_}
 use mathlib.Core.Path.{_≡_, refl, sym, ap}
 use mathlib.Core.Bool.{Bool, true, false}
-use mathlib.Core.List.{List, [], _∷_, _++_}
+use mathlib.Core.List.{List, [], _∷_, _++_, map}
 use lib.ListN.{take, replicate}
 use borrow.Author.Tests.{lt-ltb}
 use Rattle.rows.specs.Rows.{word, numAt, rows, findRow, sameBytes}
 use Rattle.rows.proofs.Laws.{pick-yes}
 use Rattle.reader_rules.specs.declared.ExternalsReader.{ExternalsReader}
+use Rattle.reader_rules.specs.State.{heldRanges}
+use Rattle.externals_reader.specs.Calls.{isPresent}
 use Rattle.session_rules.specs.declared.Session.{Session}
 use Rattle.session_rules.specs.Said.{withTransaction, withRoutesLen, withRecordCount, withAt, stop, recordCounted, newSession, routeNumber, messagesOf, oursOf, isRead, doName}
-use Rattle.session_rules.specs.Steps.{withShard, reachesReader}
+use Rattle.session_rules.specs.Steps.{withShard, noState, reachesReader}
 
 -- ---- the session
 module _ (s : Session) where
@@ -35,6 +37,9 @@ the-greatest-count-of-records-stays s = refl
 pub at-first-no-lent-byte-is-text-or-a-route-and-nothing-has-stopped : (text routes : List ℕ) → (take (newSession .at) text ≡ []) × (take (newSession .«routes_len») routes ≡ []) × (newSession .stopped ≡ false)
 unfolding newSession
 at-first-no-lent-byte-is-text-or-a-route-and-nothing-has-stopped text routes = (refl, refl, refl)
+
+pub the-reader-begins-without-ranges-and-partitions : (heldRanges noState ≡ []) × (map isPresent (noState .«by_partitions») ≡ replicate 8 false)
+the-reader-begins-without-ranges-and-partitions = (refl, refl)
 
 pub a-reader-with-its-own-shard-stays : (r : ExternalsReader) → withShard r (r .«for_shard_id») ≡ r
 a-reader-with-its-own-shard-stays r = refl
