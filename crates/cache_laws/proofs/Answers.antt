@@ -1,12 +1,13 @@
 -- What the cache's calls show of an anchor or an entry, field by field, and what they show where they are refused.
-use Prim.Native.Nat.{ℕ, _≤_}
+use Prim.Native.Nat.{ℕ, _+_, _≤_}
 use mathlib.Core.Path.{_≡_, refl}
 use mathlib.Core.Bool.{true, false}
 use mathlib.Core.List.{List, [], _∷_}
 use mathlib.Core.Option.{none, some}
+use native.Mathlib.Omega.{arith}
 use lib.ListN.{length, replicate}
 use borrow.Author.Tests.{le-leb}
-use Rattle.cache_rules.specs.Rules.{Info, Row, soundRow, total}
+use Rattle.cache_rules.specs.Rules.{Info, Row, lastOf, soundRow, total}
 use Rattle.anchors_cache.specs.declared.AnchorsCache.{AnchorsCache}
 use Rattle.anchors_cache.specs.declared.AnchorsCacheTransaction.{AnchorsCacheTransaction}
 use Rattle.anchors_cache.specs.declared.CachedAnchor.{CachedAnchor}
@@ -14,7 +15,7 @@ use Rattle.anchors_cache.specs.declared.AnchorInfo.{AnchorInfo}
 use Rattle.anchors_cache.specs.declared.FoundAnchor.the-variants as anchor
 use Rattle.anchors_cache.specs.declared.FoundInfo.the-variants as info
 use Rattle.anchors_cache.specs.declared.FoundId.the-variants as id
-use Rattle.anchors_cache.specs.Tables.{historyBytes, tablesBytes, anchorAt, infoAt}
+use Rattle.anchors_cache.specs.Tables.{anchorsOf, historyOf, historyBytes, tablesBytes, anchorAt, infoAt}
 use Rattle.anchors_cache.specs.Calls.{soundAnchor, cachedAnchor, rowAt, infoRowAt, withCache, shownAnchor, shownInfo, infoAnswer, idAnswer, getAnswer, flagAnswer, popAnswer, trimAnswer, rowFor, closedTransaction}
 
 -- ---- an anchor and an entry with a field of each size
@@ -57,6 +58,17 @@ module _ (tables : List ℕ) (t : AnchorsCacheTransaction) (c : AnchorsCache) wh
       (popAnswer 5 tables t ≡ record { number = 5; front = anchor.Nothing; author = replicate 32 0; state = t }) × (trimAnswer 5 tables t c ≡ record { number = 5; last = info.Nothing; author = replicate 32 0; state = t })
   unfolding popAnswer trimAnswer
   a-refused-pop-and-a-refused-trim-show-nothing-and-leave-the-state = (refl, refl)
+
+  -- `get` of index 0 before the pop
+  pub a-pop-shows-what-the-first-index-shows :
+      (popAnswer 0 tables t .front ≡ shownAnchor 0 (t .cache .base) (anchorsOf tables (t .cache)) .anchor) × (popAnswer 0 tables t .author ≡ shownAnchor 0 (t .cache .base) (anchorsOf tables (t .cache)) .author)
+  unfolding popAnswer shownAnchor total
+  a-pop-shows-what-the-first-index-shows = let z : t .cache .base + 0 ≡ t .cache .base = omega arith in rw z (refl, refl)
+
+  -- `last_imported_anchor_info` behind the trim
+  pub a-trim-shows-the-last-entry-left : (trimAnswer 0 tables t c .last ≡ shownInfo (lastOf (historyOf tables c)) .info) × (trimAnswer 0 tables t c .author ≡ shownInfo (lastOf (historyOf tables c)) .author)
+  unfolding trimAnswer shownInfo
+  a-trim-shows-the-last-entry-left = (refl, refl)
 
   pub a-transaction-with-its-own-cache-stays : withCache t (t .cache) ≡ t
   a-transaction-with-its-own-cache-stays = refl
