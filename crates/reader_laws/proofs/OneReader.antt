@@ -1,5 +1,5 @@
--- One reader with two ranges, and what each call but the read answers of it, computed. What a range or the reader keeps is
--- seen in the same answers: they are whole readers.
+-- One reader with two ranges, and what each call but the read answers of it, computed. What a range or the reader
+-- keeps is seen in the same answers: they are whole readers.
 use Prim.Native.Nat.{ℕ}
 use mathlib.Core.Path.{_≡_, refl}
 use mathlib.Core.Bool.{Bool, true, false}
