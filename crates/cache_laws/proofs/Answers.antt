@@ -1,13 +1,15 @@
 -- What the cache's calls show of an anchor or an entry, field by field, and what they show where they are refused.
-use Prim.Native.Nat.{ℕ, _+_, _≤_}
-use mathlib.Core.Path.{_≡_, refl}
+use Prim.Native.Nat.{ℕ, zero, suc, _+_, _*_, _≤_, _<_}
+use mathlib.Core.Path.{_≡_, refl, ap, _∙_}
 use mathlib.Core.Bool.{true, false}
 use mathlib.Core.List.{List, [], _∷_}
 use mathlib.Core.Option.{none, some}
 use native.Mathlib.Omega.{arith}
-use lib.ListN.{length, replicate}
+use lib.ListN.{length, getD, take, drop, replicate}
+use lib.Seq.{drop-drop, drop-cons}
 use borrow.Author.Tests.{le-leb}
-use Rattle.cache_rules.specs.Rules.{Info, Row, lastOf, soundRow, total}
+use Rattle.rows.specs.Rows.{rows}
+use Rattle.cache_rules.specs.Rules.{Info, Row, Anchor, withRow, lastOf, soundRow, total}
 use Rattle.anchors_cache.specs.declared.AnchorsCache.{AnchorsCache}
 use Rattle.anchors_cache.specs.declared.AnchorsCacheTransaction.{AnchorsCacheTransaction}
 use Rattle.anchors_cache.specs.declared.CachedAnchor.{CachedAnchor}
@@ -15,8 +17,9 @@ use Rattle.anchors_cache.specs.declared.AnchorInfo.{AnchorInfo}
 use Rattle.anchors_cache.specs.declared.FoundAnchor.the-variants as anchor
 use Rattle.anchors_cache.specs.declared.FoundInfo.the-variants as info
 use Rattle.anchors_cache.specs.declared.FoundId.the-variants as id
-use Rattle.anchors_cache.specs.Tables.{anchorsOf, historyOf, historyBytes, tablesBytes, anchorAt, infoAt}
-use Rattle.anchors_cache.specs.Calls.{soundAnchor, cachedAnchor, rowAt, infoRowAt, withCache, shownAnchor, shownInfo, infoAnswer, idAnswer, getAnswer, flagAnswer, popAnswer, trimAnswer, rowFor, closedTransaction}
+use Rattle.anchors_cache.specs.Tables.{anchorsOf, historyOf, withMessages, view, historyBytes, tablesBytes, anchorAt, infoAt}
+use Rattle.anchors_cache.proofs.Laws.{anchors-length}
+use Rattle.anchors_cache.specs.Calls.{refusalSeen, getCall, noRow, anchorFound, soundAnchor, cachedAnchor, rowAt, infoRowAt, withCache, shownAnchor, shownInfo, infoAnswer, idAnswer, getAnswer, flagAnswer, popAnswer, trimAnswer, rowFor, closedTransaction}
 
 -- ---- an anchor and an entry with a field of each size
 abbrev row : ℕ → Row
@@ -72,6 +75,35 @@ module _ (tables : List ℕ) (t : AnchorsCacheTransaction) (c : AnchorsCache) wh
 
   pub a-transaction-with-its-own-cache-stays : withCache t (t .cache) ≡ t
   a-transaction-with-its-own-cache-stays = refl
+
+-- ---- the place that is shown
+-- the i-th of anchors whose messages stand one after another from place b on
+messages-at : (area : List ℕ) (b : ℕ) (l : List Row) (i : ℕ) (d : Anchor) → i < length l
+    → getD (withMessages (drop (33 * b) area) l) i d ≡ withRow (getD l i noRow) (rows 33 (getD l i noRow .count) (drop (33 * (b + total (take i l))) area))
+unfolding withMessages total
+messages-at area b [] i d h = absurd (omega arith)
+messages-at area b (a ∷ l) zero d h = let z : b + 0 ≡ b = omega arith in rw z
+messages-at area b (a ∷ l) (suc i) d h =
+    let m : 33 * b + 33 * a .count ≡ 33 * (b + a .count) = omega arith in
+    let s : b + a .count + total (take i l) ≡ b + (a .count + total (take i l)) = omega arith in
+    ap (λ (k : List ℕ). getD (withMessages k l) i d) (drop-drop (33 * a .count) (33 * b) area ∙ ap (λ (n : ℕ). drop n area) m)
+    ∙ (messages-at area (b + a .count) l i d (omega arith) ∙ ap (λ (n : ℕ). withRow (getD l i noRow) (rows 33 (getD l i noRow .count) (drop (33 * n) area))) s)
+
+module _ (tables area : List ℕ) (t : AnchorsCacheTransaction) (i : ℕ) (seen : refusalSeen tables t ≡ 0) (inside : i < t .cache .len) where
+  abbrev row-i : Row
+  row-i = getD (anchorsOf tables (t .cache)) i noRow
+
+  abbrev place : ℕ
+  place = t .cache .base + total (take i (anchorsOf tables (t .cache)))
+
+  pub get-shows-the-anchor-at-the-index : getCall i tables t .anchor ≡ anchor.Anchor (cachedAnchor place row-i)
+  unfolding getCall getAnswer shownAnchor
+  get-shows-the-anchor-at-the-index = rw seen (ap (anchorFound place) (drop-cons (anchorsOf tables (t .cache)) i noRow (omega (arith, anchors-length (t .cache .first) (t .cache .len) tables))))
+
+  -- of the list cache that the window stands for
+  pub and-its-messages-stand-at-the-place-shown : (d : Anchor) → getD (view tables area (t .cache) .anchors) i d ≡ withRow row-i (rows 33 (row-i .count) (drop (33 * place) area))
+  unfolding view
+  and-its-messages-stand-at-the-place-shown d = messages-at area (t .cache .base) (anchorsOf tables (t .cache)) i d (omega (arith, anchors-length (t .cache .first) (t .cache .len) tables))
 
 -- ---- rows of the tables
 pub past-the-tables-every-number-is-0 : (place : ℕ) (tables : List ℕ)
