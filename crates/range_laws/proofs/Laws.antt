@@ -1,6 +1,6 @@
 -- What one range's read does and does not do, each law named as a sentence.
 use Prim.Native.Nat.{ℕ}
-use mathlib.Core.Path.{_≡_, refl, ap}
+use mathlib.Core.Path.{_≡_, refl, sym, ap, _∙_}
 use mathlib.Core.Bool.{Bool, true, false}
 use mathlib.Core.List.{List, [], _∷_}
 use lib.Dec.{eqb}
@@ -19,8 +19,11 @@ use Rattle.range_rules.specs.declared.RangeRead.{RangeRead}
 use Rattle.range_rules.specs.declared.ExternalsRangeReaderState.{ExternalsRangeReaderState}
 use Rattle.range_rules.specs.declared.ProcessedTo.{ProcessedTo}
 use Rattle.range_rules.specs.declared.ReadNextExternalsMode.{ReadNextExternalsMode}
+use Rattle.range_rules.specs.declared.LastChainTime.the-variants.{Nothing}
 use Rattle.range_rules.specs.Rules.{Outcome, silent, anchorsRead, contextOf, entryOf}
-use Rattle.range_reader.specs.Calls.{askedNumber, refusedAnswer, doneAnswer, doneResult, rangeRead, readCall}
+use Rattle.range_reader.specs.Calls.{ReadResult, askedNumber, refusedAnswer, doneAnswer, doneResult, rangeRead, readCall}
+use Rattle.range_reader.proofs.Bounds.{a-read-with-number-0-does-the-six-steps, a-refused-read-gives-only-its-number}
+use Rattle.range_reader.proofs.Kept.{steps-kept}
 use Rattle.cache_laws.proofs.Free.{Agree, free-bytes, times-same}
 
 -- ---- the cache
@@ -38,6 +41,20 @@ module _ (tables area : List ℕ) (t : AnchorsCacheTransaction) (shard : ShardId
       go : (b : Bool) → (n : ℕ) × (pick b (doneResult tables t range s out) (record { answer = refusedAnswer number range t; out = out }) .answer .state ≡ withCache t (poppedTimes n tables (t .cache)))
       go true = (s .value .pops, refl)
       go false = (0, refl)
+
+  -- also where a message came last, or none was read
+  pub the-fullness-answered-is-that-of-the-range-left : readCall tables area t shard routes limits processed timeout mode range out .answer .number ≡ 0
+      → readCall tables area t shard routes limits processed timeout mode range out .answer .full ≡ rangeFull limits (readCall tables area t shard routes limits processed timeout mode range out .answer .range .«by_partitions»)
+  the-fullness-answered-is-that-of-the-range-left e =
+      let h = a-read-with-number-0-does-the-six-steps tables area t shard routes limits processed timeout mode range out e in
+      let k = steps-kept tables area t shard routes limits processed timeout mode range (length out) (h .asked) .within .full in
+      ap (λ (q : ReadResult). q .answer .full) (h .done) ∙ (k ∙ sym (ap (λ (q : ReadResult). rangeFull limits (q .answer .range .«by_partitions»)) (h .done)))
+
+  pub a-refused-read-tells-no-time-no-fullness-no-pops-and-no-bytes : (readCall tables area t shard routes limits processed timeout mode range out .answer .number ≡ 0 → ⊥)
+      → let a = readCall tables area t shard routes limits processed timeout mode range out .answer in (a .«last_chain_time» ≡ Nothing) × (a .full ≡ false) × (a .pops ≡ 0) × (a .used ≡ 0)
+  a-refused-read-tells-no-time-no-fullness-no-pops-and-no-bytes p =
+      let e = a-refused-read-gives-only-its-number tables area t shard routes limits processed timeout mode range out p in
+      (ap (λ (q : ReadResult). q .answer .«last_chain_time») e, ap (λ (q : ReadResult). q .answer .full) e, ap (λ (q : ReadResult). q .answer .pops) e, ap (λ (q : ReadResult). q .answer .used) e)
 
 -- ---- free bytes
 module _ (tables area tables′ area′ : List ℕ) (t : AnchorsCacheTransaction) (g : Agree tables area tables′ area′ t)

@@ -185,14 +185,14 @@ to-the-end-only-a-full-buffer-stops-the-messages x w n e =
 
 -- questions 12, 13 and 14, in their order
 module _ (q : ProcessedTo) (partition : ExternalsPartitionRangeReaderState) (key : ExternalKey) (room : Bool) where
+  pub question-12-is-asked-of-every-message-of-ours : q .present ≡ false → judge q partition key room ≡ Refuse 12
+  unfolding judge
+  question-12-is-asked-of-every-message-of-ours e = pick-no _ _ _ e
+
   -- past the table there is none
   pub a-partition-that-is-not-there-has-no-processed-position : judge noProcessed partition key room ≡ Refuse 12
   unfolding judge
   a-partition-that-is-not-there-has-no-processed-position = refl
-
-  pub question-12-is-asked-of-every-message-of-ours : q .present ≡ false → judge q partition key room ≡ Refuse 12
-  unfolding judge
-  question-12-is-asked-of-every-message-of-ours e = pick-no _ _ _ e
 
   pub a-message-not-above-the-processed-position-is-not-buffered : q .present ≡ true → keyAbove key (q .key) ≡ false → judge q partition key room ≡ Keep
   unfolding judge

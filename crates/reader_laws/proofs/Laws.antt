@@ -23,6 +23,7 @@ use Rattle.cache_laws.specs.Book.{popTimes}
 use Rattle.cache_laws.proofs.Free.{Agree, times-same, free-bytes, free-bytes-in-views}
 use Rattle.range_rules.specs.declared.ExternalsRangeReaderState.{ExternalsRangeReaderState}
 use Rattle.range_rules.specs.declared.ReadNextExternalsMode.{ReadNextExternalsMode}
+use Rattle.range_rules.proofs.Counts.{zeros}
 use Rattle.range_rules.specs.Rules.{Outcome}
 use Rattle.messages_buffer.proofs.Laws.{first-yes, first-alone}
 use Rattle.range_laws.proofs.Laws as one-range
@@ -59,6 +60,10 @@ module _ (tables area : List ℕ) (t : AnchorsCacheTransaction) (routes : List �
       pick-both P (eqb (askedOfRead tables area t routes r) 0) _ _
       (pick-both P (r .«all_ranges_fully_read») _ _ (λ h. refl) (pick-both P (eqb (ranges-read .value .«so_far» .number) 0) _ _ (λ h. absurd (h refl)) (λ h. refl)))
       (λ h. refl)
+
+  pub a-read-of-all-that-changes-nothing-tells-no-bytes-and-no-counts : (number p : ℕ)
+      → let a = unchanged number r t out .answer in (a .used ≡ 0) × (getD (a .counts .read) p 0 ≡ 0) × (getD (a .counts .expired) p 0 ≡ 0) × (getD (a .counts .buffered) p 0 ≡ 0)
+  a-read-of-all-that-changes-nothing-tells-no-bytes-and-no-counts number p = let z = zeros 8 p 0 in (refl, omega (arith, z), omega (arith, z), omega (arith, z))
 
   pub once-all-ranges-are-read-only-the-questions-are-asked : r .«all_ranges_fully_read» ≡ true → readAllCall tables area t routes r mode out ≡ unchanged (askedOfRead tables area t routes r) r t out
   unfolding readAllCall

@@ -1,5 +1,5 @@
--- One reader with two ranges, and what each call but the read answers of it, computed. What a range or the reader keeps is
--- seen in the same answers: they are whole readers.
+-- One reader with two ranges, and what each call but the read answers of it, computed. What a range or the reader
+-- keeps is seen in the same answers: they are whole readers.
 use Prim.Native.Nat.{ℕ}
 use mathlib.Core.Path.{_≡_, refl}
 use mathlib.Core.Bool.{Bool, true, false}
@@ -244,7 +244,7 @@ unfolding setProcessedCall offsetRefusal firstNo stateNumber soundRangesFrom par
 processed-is-set-to-the-last-range's-position = (refl, refl, refl, refl)
 
 pub what-the-host-took-leaves-the-count-of-the-named-range :
-    (takenCall 3 0 2 (two 6) ≡ record { number = 0; reader = reader 2 false (at noKey 6) nowhere 2 (older (part 0 1 3) absent ∷ newer start (part 1 4 4) absent ∷ free ∷ []) })
-    × (takenCall 3 0 3 (two 6) ≡ record { number = 16; reader = two 6 }) × (takenCall 4 0 0 (two 6) ≡ record { number = 15; reader = two 6 }) × (takenCall 3 1 0 (two 6) ≡ record { number = 15; reader = two 6 })
+    (takenCall 3 0 1 (two 6) ≡ record { number = 0; reader = reader 2 false (at noKey 6) nowhere 2 (older (part 1 1 3) absent ∷ newer start (part 1 4 4) absent ∷ free ∷ []) })
+    × (takenCall 3 0 2 (two 6) .number ≡ 0) × (takenCall 3 0 3 (two 6) ≡ record { number = 16; reader = two 6 }) × (takenCall 4 0 0 (two 6) ≡ record { number = 15; reader = two 6 }) × (takenCall 3 1 0 (two 6) ≡ record { number = 15; reader = two 6 })
 unfolding takenCall offsetRefusal firstNo stateNumber soundRangesFrom partitionsNumber every placeOf
-what-the-host-took-leaves-the-count-of-the-named-range = (refl, refl, refl, refl)
+what-the-host-took-leaves-the-count-of-the-named-range = (refl, refl, refl, refl, refl)

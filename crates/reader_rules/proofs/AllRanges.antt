@@ -67,15 +67,15 @@ pub there-are-eight-partitions : (limits : List ℕ) (ps : List ExternalsPartiti
 unfolding partitionsEntered sums
 there-are-eight-partitions limits ps a b = (each-length 8 _, each-length 8 _)
 
+pub a-range-is-fully-read-exactly-where-its-position-is-to : (r : ExternalsRangeReaderState) → rangeEntered r .«fully_read» ≡ keyEqual (r .«current_position») (r .to)
+a-range-is-fully-read-exactly-where-its-position-is-to r = refl
+
 -- `new` changes the mark and nothing else of a range, and no slot behind the ranges
 pub a-range-whose-mark-is-right-is-entered-as-it-is : (r : ExternalsRangeReaderState) → keyEqual (r .«current_position») (r .to) ≡ r .«fully_read» → rangeEntered r ≡ r
 a-range-whose-mark-is-right-is-entered-as-it-is r e = ap (markedAs r) e
 
 pub the-slots-behind-the-ranges-stay : (a b c : ExternalsRangeReaderState) → rangesEntered 2 (a ∷ b ∷ c ∷ []) ≡ rangeEntered a ∷ rangeEntered b ∷ c ∷ []
 the-slots-behind-the-ranges-stay a b c = refl
-
-pub a-range-is-fully-read-exactly-where-its-position-is-to : (r : ExternalsRangeReaderState) → rangeEntered r .«fully_read» ≡ keyEqual (r .«current_position») (r .to)
-a-range-is-fully-read-exactly-where-its-position-is-to r = refl
 
 -- ---- the next range
 module _ (seqno : ℕ) (time : ChainTime) (parts : List ExternalsPartitionReaderState) (ranges : List ExternalsRangeReaderState) (k : ℕ) where
@@ -119,12 +119,6 @@ module _ (x : Fixed) (r : RangesRead) where
   unfolding wantsNext
   no-range-is-appended-after-a-refusal h = sym (no-here done _ (ne-eqb (r .«so_far» .number) 0 (λ (e : r .«so_far» .number ≡ 0). omega arith)))
 
-  pub a-range-is-appended-where-nothing-speaks-against-it : r .«so_far» .number ≡ 0 → r .«so_far» .«all_read» ≡ true → x .mode ≡ Continue → x .params .«new_is_some» ≡ false
-      → leb (openRangesLimit (x .params)) (r .len) ≡ false → ltb (lastOr 0 (λ q. q .seqno) (r .len) (r .ranges)) (x .«block_seqno») ≡ true → wantsNext x r ≡ true
-  unfolding wantsNext
-  a-range-is-appended-where-nothing-speaks-against-it n a m s l e =
-      sym (yes-here done _ true (ap (λ (k : ℕ). eqb k 0) n) (yes-here all _ true a (yes-here (continues (x .mode)) _ true (ap continues m) (yes-here settled-in _ true (ap not s) (yes-here below _ true (ap not l) (sym e))))))
-
   -- "(0 in an empty list)"
   pub in-an-empty-list-the-last-seqno-is-0 : lastOr 0 (λ q. q .seqno) 0 (r .ranges) ≡ 0
   in-an-empty-list-the-last-seqno-is-0 = refl
@@ -148,6 +142,12 @@ module _ (x : Fixed) (r : RangesRead) where
   pub no-range-is-appended-once-the-last-is-the-block's : ltb (lastOr 0 (λ q. q .seqno) (r .len) (r .ranges)) (x .«block_seqno») ≡ false → wantsNext x r ≡ false
   unfolding wantsNext
   no-range-is-appended-once-the-last-is-the-block's e = sym (no-later done _ (sym (no-later all _ (sym (no-later (continues (x .mode)) _ (sym (no-later settled-in _ (sym (no-later below _ e)))))))))
+
+  pub a-range-is-appended-where-nothing-speaks-against-it : r .«so_far» .number ≡ 0 → r .«so_far» .«all_read» ≡ true → x .mode ≡ Continue → x .params .«new_is_some» ≡ false
+      → leb (openRangesLimit (x .params)) (r .len) ≡ false → ltb (lastOr 0 (λ q. q .seqno) (r .len) (r .ranges)) (x .«block_seqno») ≡ true → wantsNext x r ≡ true
+  unfolding wantsNext
+  a-range-is-appended-where-nothing-speaks-against-it n a m s l e =
+      sym (yes-here done _ true (ap (λ (k : ℕ). eqb k 0) n) (yes-here all _ true a (yes-here (continues (x .mode)) _ true (ap continues m) (yes-here settled-in _ true (ap not s) (yes-here below _ true (ap not l) (sym e))))))
 
 -- ---- which ranges are read, and how
 pub a-range-whose-skip-offset-is-the-current-one-is-reached : (p : ExternalsPartitionReaderState) (q : ExternalsPartitionRangeReaderState) → p .present ≡ true → q .present ≡ true → q .«skip_offset» ≡ p .«curr_processed_offset» → reached p q ≡ true
@@ -236,9 +236,6 @@ pub before-the-first-turn-all-counts-as-read : (s : ExternalsReaderState)
     → (atEntry s .«so_far» .number ≡ 0) × (atEntry s .«so_far» .pops ≡ 0) × (atEntry s .«so_far» .used ≡ 0) × (atEntry s .«so_far» .«all_read» ≡ true) × (atEntry s .«so_far» .stopped ≡ false)
 before-the-first-turn-all-counts-as-read s = (refl, refl, refl, refl, refl)
 
-pub a-refusal-gives-only-the-number : (s : SoFar) → numbered (s .number) s ≡ s
-a-refusal-gives-only-the-number s = refl
-
 -- and where that is known already, nothing
 pub a-skipped-range-changes-only-whether-all-are-read : (s : SoFar) → (notAllRead s .«all_read» ≡ false) × (s .«all_read» ≡ false → notAllRead s ≡ s)
 a-skipped-range-changes-only-whether-all-are-read s = (refl, λ e. ap said (sym e))
@@ -282,6 +279,9 @@ module _ (x : Fixed) (i : ℕ) (r : RangesRead) (a : Told) (e : eqb (a .number) 
   pub a-refused-range-leaves-what-the-turns-before-came-to : (after .«so_far» .pops ≡ r .«so_far» .pops) × ((after .«so_far» .used ≡ r .«so_far» .used) × ((after .«so_far» .counts ≡ r .«so_far» .counts) × (after .ranges ≡ r .ranges)))
   unfolding afterTurn
   a-refused-range-leaves-what-the-turns-before-came-to = rw e (refl, (refl, (refl, refl)))
+
+pub a-refusal-gives-only-the-number : (s : SoFar) → numbered (s .number) s ≡ s
+a-refusal-gives-only-the-number s = refl
 
 -- "When a read in this call leaves .."
 pub a-range-read-goes-back-to-its-place-settled : (x : Fixed) (i : ℕ) (r : RangesRead) (a : Told) → a .number ≡ 0 → afterTurn x i r a .ranges ≡ set (r .ranges) i (settled x (a .range))

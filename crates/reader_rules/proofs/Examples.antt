@@ -2,7 +2,7 @@
 use Prim.Native.Nat.{ℕ, zero, suc, _+_, _≤_, _<_}
 use mathlib.Core.Path.{_≡_, refl}
 use mathlib.Core.Bool.{Bool, true, false}
-use mathlib.Core.List.{List, [], _∷_}
+use mathlib.Core.List.{List, [], _∷_, _++_}
 use lib.ListN.{replicate}
 use borrow.Author.Tests.{le-leb, lt-leb}
 use Rattle.shard_ident.specs.Shard.{shardNumber}
@@ -146,11 +146,11 @@ pub of-a-missing-partition-only-skip-offset-0-is-reached : (meets Collected nowh
 unfolding meets
 of-a-missing-partition-only-skip-offset-0-is-reached = (refl, refl)
 
--- partition 7 is asked too
+-- partition 7 is asked too, and there is no partition 8
 pub all-eight-partitions-are-asked :
-    (partitionsMeet Empty [] [] ≡ true) × (partitionsMeet Empty [] (holding 1 0 0 ∷ []) ≡ false) × (partitionsMeet Empty [] (lacking ∷ lacking ∷ lacking ∷ lacking ∷ lacking ∷ lacking ∷ lacking ∷ holding 1 0 0 ∷ []) ≡ false)
+    (partitionsMeet Empty [] [] ≡ true) × (partitionsMeet Empty [] (holding 1 0 0 ∷ []) ≡ false) × (partitionsMeet Empty [] (replicate 7 lacking ++ (holding 1 0 0 ∷ [])) ≡ false) × (partitionsMeet Empty [] (replicate 8 lacking ++ (holding 1 0 0 ∷ [])) ≡ true)
 unfolding allBelow meets
-all-eight-partitions-are-asked = (refl, refl, refl)
+all-eight-partitions-are-asked = (refl, refl, refl, refl)
 
 pub one-range-not-fully-read-is-enough : allFullyRead (rangesFrom 1 0) ≡ false
 unfolding every

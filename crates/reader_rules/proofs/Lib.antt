@@ -4,5 +4,5 @@ pub mod Finalize
 pub mod Turns
 pub mod Kept
 pub mod Sums
-pub mod ByOffset
+pub mod Offsets
 pub mod Examples

@@ -88,7 +88,7 @@ pub a-shard-is-workchain-4-and-prefix-8 :
 unfolding shardOf numAt word
 a-shard-is-workchain-4-and-prefix-8 = (refl, refl)
 
--- next chain time 61000, timeout 60, seqno 5, open-ranges limit 4, a flag, limit 2 for partition 0 and others for the rest
+-- next chain time 61000, timeout 60, seqno 5, open-ranges limit 4, a flag, limit 2 for partition 0 and seven others
 abbrev settings : ℕ → List ℕ
 settings flag =
     72 ∷ 238 ∷ 0 ∷ 0 ∷ 0 ∷ 0 ∷ 0 ∷ 0 ∷ 60 ∷ 0 ∷ 0 ∷ 0 ∷ 5 ∷ 0 ∷ 0 ∷ 0 ∷ 4 ∷ flag ∷ 2 ∷ 0 ∷ 255 ∷ 255 ∷ 3 ∷ 1 ∷ 4 ∷ 0 ∷ 5 ∷ 0 ∷ 6 ∷ 0 ∷ 7 ∷ 0 ∷ 8 ∷ 2 ∷ []

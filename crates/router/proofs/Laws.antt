@@ -202,8 +202,8 @@ one-more-fits n = go (leb (n + 1) maxRoutes) refl
     go true e = let h = leb-true (n + 1) maxRoutes e in sym (lt-ltb n maxRoutes (omega arith))
     go false e = let h = leb-false (n + 1) maxRoutes e in sym (le-ltb n maxRoutes (omega arith))
 
--- Behind rows that pass question 3 one more passes it where it has a place, its partition is at most 7 and none before it
--- has its address.
+-- Behind rows that pass question 3 one more passes it where it has a place, its partition is at most 7 and none before
+-- it has its address.
 pub question-3-of-one-row-more : (l : List (List ℕ)) (p : List ℕ) → soundRoutes l ≡ true → soundRoutes (l ++ (p ∷ [])) ≡ (ltb (length l) maxRoutes && (leb (routePartition p) 7 && not (listed (addressOf p) l)))
 unfolding soundRoutes
 question-3-of-one-row-more l p e =

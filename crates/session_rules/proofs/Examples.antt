@@ -1,16 +1,16 @@
 -- A session changed in one place, the names of its calls, and routes and records at each bound.
-use Prim.Native.Nat.{ℕ, _+_, _<_}
+use Prim.Native.Nat.{ℕ}
 use mathlib.Core.Path.{_≡_, refl, sym, ap}
 use mathlib.Core.Bool.{Bool, true, false}
-use mathlib.Core.List.{List, [], _∷_, _++_}
+use mathlib.Core.List.{List, [], _∷_, _++_, map}
 use lib.ListN.{take, replicate}
-use borrow.Author.Tests.{lt-ltb}
 use Rattle.rows.specs.Rows.{word, numAt, rows, findRow, sameBytes}
-use Rattle.rows.proofs.Laws.{pick-yes}
 use Rattle.reader_rules.specs.declared.ExternalsReader.{ExternalsReader}
+use Rattle.reader_rules.specs.State.{heldRanges}
+use Rattle.externals_reader.specs.Calls.{isPresent}
 use Rattle.session_rules.specs.declared.Session.{Session}
 use Rattle.session_rules.specs.Said.{withTransaction, withRoutesLen, withRecordCount, withAt, stop, recordCounted, newSession, routeNumber, messagesOf, oursOf, isRead, doName}
-use Rattle.session_rules.specs.Steps.{withShard, reachesReader}
+use Rattle.session_rules.specs.Steps.{withShard, noState, reachesReader}
 
 -- ---- the session
 module _ (s : Session) where
@@ -23,18 +23,21 @@ module _ (s : Session) where
       marked : Bool → Session
       marked b = record { records = s .records; stopped = b; at = s .at; «routes_len» = s .«routes_len»; transaction = s .transaction }
 
-  pub the-count-of-records-goes-up-by-1 : s .records < 18446744073709551615 → recordCounted s .records ≡ s .records + 1
-  unfolding recordCounted
-  the-count-of-records-goes-up-by-1 h = pick-yes _ _ _ (lt-ltb (s .records) 18446744073709551615 h)
-
--- and stays at the greatest number of 64 bits
+-- the count stays at the greatest number of 64 bits
 pub the-greatest-count-of-records-stays : (s : Session) → recordCounted (withRecordCount s 18446744073709551615) .records ≡ 18446744073709551615
 unfolding recordCounted
 the-greatest-count-of-records-stays s = refl
 
+pub the-first-record-is-number-1 : recordCounted newSession .records ≡ 1
+unfolding recordCounted newSession
+the-first-record-is-number-1 = refl
+
 pub at-first-no-lent-byte-is-text-or-a-route-and-nothing-has-stopped : (text routes : List ℕ) → (take (newSession .at) text ≡ []) × (take (newSession .«routes_len») routes ≡ []) × (newSession .stopped ≡ false)
 unfolding newSession
 at-first-no-lent-byte-is-text-or-a-route-and-nothing-has-stopped text routes = (refl, refl, refl)
+
+pub the-reader-begins-without-ranges-and-partitions : (heldRanges noState ≡ []) × (map isPresent (noState .«by_partitions») ≡ replicate 8 false)
+the-reader-begins-without-ranges-and-partitions = (refl, refl)
 
 pub a-reader-with-its-own-shard-stays : (r : ExternalsReader) → withShard r (r .«for_shard_id») ≡ r
 a-reader-with-its-own-shard-stays r = refl

@@ -8,3 +8,4 @@ pub mod Ranges
 pub mod Texts
 pub mod LongSteps
 pub mod Examples
+pub mod LentBytes
