@@ -1,2 +1,3 @@
 pub mod Results
 pub mod Refused
+pub mod Shown

@@ -1,0 +1,48 @@
+-- The host's shapes say what the core's say: a flag its mode, a reader there and back, and what is found or not.
+use Prim.Native.Nat.{ℕ}
+use mathlib.Core.Path.{_≡_, refl}
+use mathlib.Core.Bool.{true, false}
+use mathlib.Core.List.{List}
+use Rattle.ext_types.specs.declared.ChainTime.{ChainTime}
+use Rattle.anchors_cache.specs.declared.AnchorInfo.{AnchorInfo}
+use Rattle.anchors_cache.specs.declared.CachedAnchor.{CachedAnchor}
+use Rattle.anchors_cache.specs.declared.FoundAnchor.the-variants as front
+use Rattle.anchors_cache.specs.declared.FoundInfo.the-variants as last
+use Rattle.range_rules.specs.declared.LastChainTime.{LastChainTime}
+use Rattle.range_rules.specs.declared.LastChainTime.the-variants.{Nothing, Time}
+use Rattle.range_rules.specs.declared.ReadNextExternalsMode.the-variants.{ToTheEnd, ToPreviuosReadTo}
+use Rattle.reader_rules.specs.declared.GetNextMessageGroupMode.the-variants.{Continue, Refill}
+use Rattle.reader_rules.specs.declared.ExternalsReader.{ExternalsReader}
+use Rattle.externals_reader.specs.Calls.{readAllCall}
+use Rattle.host.specs.declared.Externals.{Externals}
+use Rattle.host.specs.Shapes.{rangeMode, lastTime, savedTime, readerOf, heldReader, anchorShown, infoShown}
+use Rattle.host.specs.Calls.{readAll}
+
+-- ---- modes
+pub the-flag-of-a-read-of-all-says-Refill-or-Continue : (out tables area routes : List ℕ) (e : Externals)
+    → (readAll out tables area routes true e ≡ readAllCall tables area (e .transaction) routes (readerOf (e .reader)) Refill out) × (readAll out tables area routes false e ≡ readAllCall tables area (e .transaction) routes (readerOf (e .reader)) Continue out)
+unfolding readAll
+the-flag-of-a-read-of-all-says-Refill-or-Continue out tables area routes e = (refl, refl)
+
+pub the-flag-of-a-range's-read-says-where-it-ends : (rangeMode true ≡ ToPreviuosReadTo) × (rangeMode false ≡ ToTheEnd)
+the-flag-of-a-range's-read-says-where-it-ends = (refl, refl)
+
+-- ---- the reader
+time-back : (free : ChainTime) (t : LastChainTime) → lastTime (savedTime free t .present) (savedTime free t .time) ≡ t
+time-back free Nothing = refl
+time-back free (Time ct) = refl
+
+pub what-the-host-holds-of-the-core's-reader-is-that-reader : (free : ChainTime) (r : ExternalsReader) → readerOf (heldReader free r) ≡ r
+unfolding readerOf heldReader
+what-the-host-holds-of-the-core's-reader-is-that-reader free r = rw (time-back free (r .«reader_state» .«last_read_to_anchor_chain_time»))
+
+-- ---- what is found
+module _ (number : ℕ) (author : List ℕ) where
+  pub what-is-found-is-shown-with-its-mark : (a : CachedAnchor) (i : AnchorInfo)
+      → (anchorShown number (front.Anchor a) author ≡ record { number = number; found = true; anchor = a; author = author }) × (infoShown number (last.Info i) author ≡ record { number = number; found = true; info = i; author = author })
+  what-is-found-is-shown-with-its-mark a i = (refl, refl)
+
+  pub nothing-found-is-zeros-without-a-mark :
+      (anchorShown number front.Nothing author ≡ record { number = number; found = false; anchor = record { id = 0; «chain_time» = record { 0 = 0 }; ours = 0; count = 0; place = 0 }; author = author })
+      × (infoShown number last.Nothing author ≡ record { number = number; found = false; info = record { id = 0; ct = record { 0 = 0 }; «all_exts_count» = 0; «our_exts_count» = 0 }; author = author })
+  nothing-found-is-zeros-without-a-mark = (refl, refl)
