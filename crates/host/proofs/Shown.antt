@@ -14,9 +14,12 @@ use Rattle.range_rules.specs.declared.ReadNextExternalsMode.the-variants.{ToThe
 use Rattle.reader_rules.specs.declared.GetNextMessageGroupMode.the-variants.{Continue, Refill}
 use Rattle.reader_rules.specs.declared.ExternalsReader.{ExternalsReader}
 use Rattle.externals_reader.specs.Calls.{readAllCall}
+use Rattle.externals_reader.specs.declared.ReadIntoBuffers.{ReadIntoBuffers}
+use Rattle.range_reader.specs.declared.ReadExternals.{ReadExternals}
 use Rattle.host.specs.declared.Externals.{Externals}
+use Rattle.host.specs.declared.Reader.{Reader}
 use Rattle.host.specs.Shapes.{rangeMode, lastTime, savedTime, readerOf, heldReader, anchorShown, infoShown}
-use Rattle.host.specs.Calls.{readAll}
+use Rattle.host.specs.Calls.{readAllShown, readAll, readRangeShown}
 
 -- ---- modes
 pub the-flag-of-a-read-of-all-says-Refill-or-Continue : (out tables area routes : List ℕ) (e : Externals)
@@ -46,3 +49,12 @@ module _ (number : ℕ) (author : List ℕ) where
       (anchorShown number front.Nothing author ≡ record { number = number; found = false; anchor = record { id = 0; «chain_time» = record { 0 = 0 }; ours = 0; count = 0; place = 0 }; author = author })
       × (infoShown number last.Nothing author ≡ record { number = number; found = false; info = record { id = 0; ct = record { 0 = 0 }; «all_exts_count» = 0; «our_exts_count» = 0 }; author = author })
   nothing-found-is-zeros-without-a-mark = (refl, refl)
+
+-- ---- what a read answers
+pub the-host-is-told-the-number-bytes-and-counts-of-a-read-of-all : (was : Reader) (a : ReadIntoBuffers)
+    → (readAllShown was a .answer .number ≡ a .number) × (readAllShown was a .answer .used ≡ a .used) × (readAllShown was a .answer .counts ≡ a .counts)
+the-host-is-told-the-number-bytes-and-counts-of-a-read-of-all was a = (refl, refl, refl)
+
+pub and-of-a-range's-read-also-its-pops-and-fullness : (a : ReadExternals)
+    → (readRangeShown a .answer .number ≡ a .number) × (readRangeShown a .answer .used ≡ a .used) × (readRangeShown a .answer .counts ≡ a .counts) × (readRangeShown a .answer .pops ≡ a .pops) × (readRangeShown a .answer .full ≡ a .full)
+and-of-a-range's-read-also-its-pops-and-fullness a = (refl, refl, refl, refl, refl)

@@ -98,6 +98,10 @@ pub settings-are-timeout-open-ranges-limit-and-flag :
 unfolding paramsOf numAt word
 settings-are-timeout-open-ranges-limit-and-flag = (refl, refl)
 
+pub past-the-end-every-setting-is-0 : paramsOf [] ≡ record { «externals_expire_timeout» = record { 0 = 0 }; «open_ranges_limit» = 0; «new_is_some» = false }
+unfolding paramsOf numAt
+past-the-end-every-setting-is-0 = refl
+
 pub settings-end-with-eight-limits : limitsIn (settings 0) ≡ 2 ∷ 65535 ∷ 259 ∷ 4 ∷ 5 ∷ 6 ∷ 7 ∷ 520 ∷ []
 unfolding limitsOf numAt word
 settings-end-with-eight-limits = refl

@@ -3,14 +3,21 @@ use Prim.Native.Nat.{ℕ}
 use mathlib.Core.Path.{_≡_, refl, sym, ap}
 use mathlib.Core.Bool.{Bool, true, false}
 use mathlib.Core.List.{List, [], _∷_, _++_, map}
+use lib.IntN.{pos}
 use lib.ListN.{take, replicate}
 use Rattle.rows.specs.Rows.{word, numAt, rows, findRow, sameBytes}
 use Rattle.reader_rules.specs.declared.ExternalsReader.{ExternalsReader}
-use Rattle.reader_rules.specs.State.{heldRanges}
-use Rattle.externals_reader.specs.Calls.{isPresent}
+use Rattle.shard_ident.specs.Shard.{lowestSet, isShard}
+use Rattle.messages_buffer.specs.Fullness.{every, limitsNumber, firstNo}
+use Rattle.records.specs.Records.{paramsOf, limitsOf}
+use Rattle.reader_rules.specs.Each.{each}
+use Rattle.reader_rules.specs.State.{heldRanges, soundRangesFrom, stateNumber, settingsNumber, settledNumber, readerNumber}
+use Rattle.reader_rules.specs.Rules.{withDefault, partitionsEntered}
+use Rattle.externals_reader.specs.declared.ReaderDone.{ReaderDone}
+use Rattle.externals_reader.specs.Calls.{isPresent, newCall}
 use Rattle.session_rules.specs.declared.Session.{Session}
 use Rattle.session_rules.specs.Said.{withTransaction, withRoutesLen, withRecordCount, withAt, stop, recordCounted, newSession, routeNumber, messagesOf, oursOf, isRead, doName}
-use Rattle.session_rules.specs.Steps.{withShard, noState, reachesReader}
+use Rattle.session_rules.specs.Steps.{withShard, noState, settingsDone, noReader, reachesReader}
 
 -- ---- the session
 module _ (s : Session) where
@@ -41,6 +48,18 @@ the-reader-begins-without-ranges-and-partitions = (refl, refl)
 
 pub a-reader-with-its-own-shard-stays : (r : ExternalsReader) → withShard r (r .«for_shard_id») ≡ r
 a-reader-with-its-own-shard-stays r = refl
+
+-- ---- 0003: next chain time 61000, timeout 60, seqno 5, open-ranges limit 4, none waiting, limit 2 for partition 0
+abbrev settings : List ℕ
+settings = 72 ∷ 238 ∷ 0 ∷ 0 ∷ 0 ∷ 0 ∷ 0 ∷ 0 ∷ 60 ∷ 0 ∷ 0 ∷ 0 ∷ 5 ∷ 0 ∷ 0 ∷ 0 ∷ 4 ∷ 0 ∷ 2 ∷ 0 ∷ replicate 14 255
+
+abbrev atSettings : ReaderDone
+atSettings = settingsDone (withShard noReader (record { workchain = pos 0; prefix = 9223372036854775808 })) settings
+
+pub the-settings-make-the-reader-once :
+    (atSettings .number ≡ 0) × (atSettings .reader .«block_seqno» ≡ 5) × (atSettings .reader .«next_chain_time» ≡ record { 0 = 61000 }) × (map isPresent (atSettings .reader .«reader_state» .«by_partitions») ≡ true ∷ replicate 7 false)
+unfolding settingsDone noReader newCall readerNumber isShard lowestSet settledNumber settingsNumber limitsNumber firstNo stateNumber soundRangesFrom every paramsOf limitsOf numAt word partitionsEntered withDefault each
+the-settings-make-the-reader-once = (refl, refl, refl, refl)
 
 -- ---- 0002: a route by its workchain, an account of one byte repeated, and its partition
 abbrev route : ℕ → ℕ → ℕ → List ℕ
