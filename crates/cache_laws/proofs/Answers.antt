@@ -18,8 +18,9 @@ use Rattle.anchors_cache.specs.declared.FoundAnchor.the-variants as anchor
 use Rattle.anchors_cache.specs.declared.FoundInfo.the-variants as info
 use Rattle.anchors_cache.specs.declared.FoundId.the-variants as id
 use Rattle.anchors_cache.specs.Tables.{anchorsOf, historyOf, withMessages, view, historyBytes, tablesBytes, anchorAt, infoAt}
+use Rattle.anchors_cache.specs.Windows.{anyPlaces}
 use Rattle.anchors_cache.proofs.Laws.{anchors-length}
-use Rattle.anchors_cache.specs.Calls.{refusalSeen, getCall, noRow, anchorFound, soundAnchor, cachedAnchor, rowAt, infoRowAt, withCache, shownAnchor, shownInfo, infoAnswer, idAnswer, getAnswer, flagAnswer, popAnswer, trimAnswer, rowFor, closedTransaction}
+use Rattle.anchors_cache.specs.Calls.{placesIn, refusalSeen, getCall, noRow, anchorFound, soundAnchor, cachedAnchor, rowAt, infoRowAt, withCache, shownAnchor, shownInfo, infoAnswer, idAnswer, getAnswer, flagAnswer, popAnswer, trimAnswer, rowFor, closedTransaction}
 
 -- ---- an anchor and an entry with a field of each size
 abbrev row : ℕ → Row
@@ -123,6 +124,10 @@ the-last-row-of-each-table-is-read place tables h = rw (le-leb tablesBytes (leng
 pub an-anchor-of-the-code-is-asked-as-the-rule's-row : (low place : ℕ) (a : Row) → soundAnchor low (cachedAnchor place a) ≡ soundRow low a
 unfolding soundRow
 an-anchor-of-the-code-is-asked-as-the-rule's-row low place a = refl
+
+-- 2 ^ 64 bytes
+pub a-call-that-is-lent-no-area-asks-as-of-the-longest-one : anyPlaces ≡ placesIn 18446744073709551616
+a-call-that-is-lent-no-area-asks-as-of-the-longest-one = refl
 
 pub a-new-transaction-is-not-open-and-has-no-mark : (closedTransaction .active ≡ false) × (closedTransaction .committed ≡ false)
 a-new-transaction-is-not-open-and-has-no-mark = (refl, refl)
