@@ -13,7 +13,8 @@ use Rattle.anchors_cache.specs.declared.FoundAnchor.the-variants as anchor
 use Rattle.anchors_cache.specs.declared.FoundInfo.the-variants as info
 use Rattle.anchors_cache.specs.declared.FoundId.the-variants as id
 use Rattle.anchors_cache.specs.Tables.{historyBytes, tablesBytes, anchorAt, infoAt}
-use Rattle.anchors_cache.specs.Calls.{rowAt, infoRowAt, withCache, infoAnswer, idAnswer, getAnswer, flagAnswer, popAnswer, trimAnswer, rowFor, closedTransaction}
+use Rattle.anchors_cache.specs.Windows.{anyPlaces}
+use Rattle.anchors_cache.specs.Calls.{placesIn, rowAt, infoRowAt, withCache, infoAnswer, idAnswer, getAnswer, flagAnswer, popAnswer, trimAnswer, rowFor, closedTransaction}
 
 -- ---- refused: none, false, and an author of zeros
 module _ (n : ℕ) where
@@ -48,6 +49,10 @@ pub the-last-row-of-each-table-is-read : (place : ℕ) (tables : List ℕ) → t
     → (rowAt (maxAnchors - 1) place tables .id ≡ anchorAt (maxAnchors - 1) tables .id) × (infoRowAt (maxHistory - 1) tables .id ≡ infoAt (maxHistory - 1) tables .id)
 unfolding rowAt infoRowAt
 the-last-row-of-each-table-is-read place tables h = rw (le-leb tablesBytes (length tables) h) (refl, refl)
+
+-- 2 ^ 64 bytes
+pub a-call-that-is-lent-no-area-asks-as-of-the-longest-one : anyPlaces ≡ placesIn 18446744073709551616
+a-call-that-is-lent-no-area-asks-as-of-the-longest-one = refl
 
 -- 66 bytes are two messages
 pub an-added-anchor's-row-is-its-own : (author : List ℕ) → rowFor (record { id = 7; «chain_time» = record { 0 = 1000 }; author = author }) 2 66 ≡ record { id = 7; time = 1000; author = author; ours = 2; count = 2 }
