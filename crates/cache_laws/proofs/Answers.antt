@@ -20,7 +20,7 @@ use Rattle.anchors_cache.specs.declared.FoundId.the-variants as id
 use Rattle.anchors_cache.specs.Tables.{anchorsOf, historyOf, withMessages, view, historyBytes, tablesBytes, anchorAt, infoAt}
 use Rattle.anchors_cache.specs.Windows.{anyPlaces}
 use Rattle.anchors_cache.proofs.Laws.{anchors-length}
-use Rattle.anchors_cache.specs.Calls.{placesIn, refusalSeen, getCall, noRow, anchorFound, soundAnchor, cachedAnchor, rowAt, infoRowAt, withCache, shownAnchor, shownInfo, infoAnswer, idAnswer, getAnswer, flagAnswer, popAnswer, trimAnswer, rowFor, closedTransaction}
+use Rattle.anchors_cache.specs.Calls.{placesIn, refusalSeen, getCall, pendingCall, noRow, anchorFound, soundAnchor, cachedAnchor, rowAt, infoRowAt, withCache, shownAnchor, shownInfo, infoAnswer, idAnswer, getAnswer, flagAnswer, popAnswer, trimAnswer, rowFor, closedTransaction}
 
 -- ---- an anchor and an entry with a field of each size
 abbrev row : ℕ → Row
@@ -105,6 +105,11 @@ module _ (tables area : List ℕ) (t : AnchorsCacheTransaction) (i : ℕ) (seen 
   pub and-its-messages-stand-at-the-place-shown : (d : Anchor) → getD (view tables area (t .cache) .anchors) i d ≡ withRow row-i (rows 33 (row-i .count) (drop (33 * place) area))
   unfolding view
   and-its-messages-stand-at-the-place-shown d = messages-at area (t .cache .base) (anchorsOf tables (t .cache)) i d (omega (arith, anchors-length (t .cache .first) (t .cache .len) tables))
+
+-- not of what a rollback would restore
+pub pending-is-that-of-the-present-cache : (tables area : List ℕ) (t : AnchorsCacheTransaction) → refusalSeen tables t ≡ 0 → pendingCall tables t .flag ≡ view tables area (t .cache) .pending
+unfolding pendingCall flagAnswer view
+pending-is-that-of-the-present-cache tables area t e = rw e
 
 -- ---- rows of the tables
 pub past-the-tables-every-number-is-0 : (place : ℕ) (tables : List ℕ)
