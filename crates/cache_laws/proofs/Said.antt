@@ -1,16 +1,19 @@
--- What the calls that answer an enum say of the cache that the window stands for: a refused one nothing.
+-- What the calls that answer an enum or a flag say of the cache that the window stands for: a refused one nothing.
 use Prim.Native.Nat.{ℕ, zero, suc, _+_, _*_}
 use mathlib.Core.Path.{_≡_, refl, sym, ap, _∙_}
-use mathlib.Core.List.{List, [], _∷_}
+use mathlib.Core.List.{List, [], _∷_, map}
 use mathlib.Core.Option.{Option, none, some}
 use native.Mathlib.Omega.{arith}
 use lib.ListN.{take, drop}
 use lib.Seq.{drop-drop}
+use mathlib.Core.Bool.{false}
+use Rattle.ext_types.specs.declared.ExternalKey.{ExternalKey}
+use Rattle.anchors_cache.proofs.Laws.{rows-of-messages}
 use Rattle.anchors_cache.specs.declared.AnchorsCacheTransaction.{AnchorsCacheTransaction}
-use Rattle.cache_rules.specs.Rules.{Info, Anchor, Cache, Row, frontOf, lastOf, infoAtCt, total, trim}
+use Rattle.cache_rules.specs.Rules.{Info, Anchor, Cache, Row, frontOf, lastOf, infoAtCt, total, trim, rowOf, pendingUpTo}
 use Rattle.anchors_cache.specs.Tables.{withMessages, anchorsOf, historyOf, view}
 use Rattle.anchors_cache.specs.Windows.{trimmedCache}
-use Rattle.anchors_cache.specs.Calls.{onZero, refusal, refusalSeen, anchorFound, anchorAuthor, infoFound, infoAuthor, idFound, shownInfo, shownAnchor, popCall, popAnswer, trimCall, trimAnswer, infoAnswer, lastInfoCall, infoAtCtCall, idAnswer, lastIdCall, getCall, getAnswer}
+use Rattle.anchors_cache.specs.Calls.{onZero, refusal, refusalSeen, anchorFound, anchorAuthor, infoFound, infoAuthor, idFound, shownInfo, shownAnchor, popCall, popAnswer, trimCall, trimAnswer, infoAnswer, lastInfoCall, infoAtCtCall, idAnswer, lastIdCall, getCall, getAnswer, flagAnswer, pendingCall, pendingInRangeCall}
 use Rattle.anchors_cache.specs.Said.{anchorSaid, infoSaid, idSaid, idAndTime}
 use Rattle.cache_laws.proofs.Views.{view-trimmed}
 
@@ -91,3 +94,12 @@ module _ (tables area : List ℕ) (t : AnchorsCacheTransaction) where
       go : (k : ℕ) → let a = idAnswer k (lastOf (historyOf tables (t .cache))) in idSaid (a .last) ≡ onZero (a .number) (idAndTime (lastOf (historyOf tables (t .cache)))) none
       go zero = id-says (lastOf (historyOf tables (t .cache)))
       go (suc k) = refl
+
+  -- of the present cache, not of what a rollback would restore
+  pub pending-is-that-of-the-cache : let a = pendingCall tables t in a .flag ≡ onZero (a .number) (present .pending) false
+  unfolding pendingCall flagAnswer view
+  pending-is-that-of-the-cache = refl
+
+  pub pending-in-range-is-the-rule's : (upTo : ExternalKey) → let a = pendingInRangeCall upTo tables t in a .flag ≡ onZero (a .number) (pendingUpTo (upTo .«anchor_id») (map rowOf (present .anchors))) false
+  unfolding pendingInRangeCall flagAnswer view
+  pending-in-range-is-the-rule's upTo = rw (rows-of-messages (drop (33 * t .cache .base) area) (anchorsOf tables (t .cache)))
