@@ -25,8 +25,8 @@ unfoldable pub listedIn : ℤ → List ℕ → List Route → Bool
 listedIn workchain account [] = false
 listedIn workchain account (r ∷ l) = pick (sameRoute r workchain account) true (listedIn workchain account l)
 
--- question 3, one record after the other: fewer than the cap before it, its partition at most 7, no record before it with
--- its workchain and account
+-- question 3, one record after the other: fewer than the cap before it, its partition at most 7, and none before it
+-- with its workchain and account
 unfoldable pub takesOne : List Route → Route → Bool
 takesOne before r = ltb (length before) maxRoutes && (leb (r .partition) 7 && not (listedIn (r .workchain) (r .account) before))
 

@@ -1,4 +1,5 @@
--- `host::ext_add_imported_anchor_info` meets its contract: the law of `by_reference`'s `Thin.antt` at `cores::entry_added`, which meets its own.
+-- `host::ext_add_imported_anchor_info` meets its contract: the law of `by_reference`'s `Thin.antt` at
+-- `cores::entry_added`, which meets its own.
 -- Assumes nothing.
 use contract.Running.{givenOf, tables, tablesOf}
 use denote.Triple.Spec.{tripleOf}
