@@ -1,4 +1,4 @@
 pub mod Tables
 pub mod Windows
 pub mod Calls
-pub mod Said
+pub mod Values

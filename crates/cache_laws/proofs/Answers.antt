@@ -1,11 +1,12 @@
 -- What the cache's calls show where they are refused, and the rows of the tables by their numbers.
-use Prim.Native.Nat.{ℕ, suc, _-_, _≤_}
+use Prim.Native.Nat.{ℕ, zero, suc, _-_, _≤_}
 use mathlib.Core.Path.{_≡_, refl}
-use mathlib.Core.Bool.{Bool, false}
+use mathlib.Core.Bool.{Bool, true, false}
 use mathlib.Core.List.{List}
 use mathlib.Core.Option.{Option}
 use lib.ListN.{length, replicate}
 use borrow.Author.Tests.{le-leb}
+use Rattle.rows.specs.Rows.{pick}
 use Rattle.cache_rules.specs.Rules.{Info, Row, authorBytes, maxAnchors, maxHistory}
 use Rattle.anchors_cache.specs.declared.AnchorsCache.{AnchorsCache}
 use Rattle.anchors_cache.specs.declared.AnchorsCacheTransaction.{AnchorsCacheTransaction}
@@ -14,7 +15,7 @@ use Rattle.anchors_cache.specs.declared.FoundInfo.the-variants as info
 use Rattle.anchors_cache.specs.declared.FoundId.the-variants as id
 use Rattle.anchors_cache.specs.Tables.{historyBytes, tablesBytes, anchorAt, infoAt}
 use Rattle.anchors_cache.specs.Windows.{anyPlaces}
-use Rattle.anchors_cache.specs.Calls.{placesIn, rowAt, infoRowAt, withCache, infoAnswer, idAnswer, getAnswer, flagAnswer, popAnswer, trimAnswer, rowFor, closedTransaction}
+use Rattle.anchors_cache.specs.Calls.{placesIn, rowAt, infoRowAt, withCache, infoAnswer, idAnswer, getAnswer, flagAnswer, popAnswer, trimAnswer, rowFor, answer, refusalAt, closedTransaction, closeCall}
 
 -- ---- refused: none, false, and an author of zeros
 module _ (n : ℕ) where
@@ -34,6 +35,22 @@ a-transaction-with-its-own-cache-stays t = refl
 
 pub a-new-transaction-is-not-open-and-has-no-mark : (closedTransaction .active ≡ false) × (closedTransaction .committed ≡ false)
 a-new-transaction-is-not-open-and-has-no-mark = (refl, refl)
+
+-- they mean nothing while no transaction is open, and are left as they are
+pub a-close-leaves-the-window-to-restore-and-the-mark : (n : ℕ) (tables : List ℕ) (t : AnchorsCacheTransaction)
+    → (closeCall n tables t .state .undo ≡ t .undo) × (closeCall n tables t .state .committed ≡ t .committed)
+unfolding closeCall answer
+a-close-leaves-the-window-to-restore-and-the-mark n tables t = go (refusalAt true n tables t)
+  where
+    c : AnchorsCache
+    c = pick (t .committed) (t .cache) (t .undo)
+
+    closed : AnchorsCacheTransaction
+    closed = record { cache = c; undo = t .undo; active = false; committed = t .committed }
+
+    go : (k : ℕ) → (answer k t closed .state .undo ≡ t .undo) × (answer k t closed .state .committed ≡ t .committed)
+    go zero = (refl, refl)
+    go (suc k) = (refl, refl)
 
 -- ---- rows of the tables
 -- document 01's numbers

@@ -3,5 +3,5 @@ pub mod Kept
 pub mod Claim
 pub mod Corollaries
 pub mod Free
-pub mod Said
+pub mod Values
 pub mod Answers

@@ -13,7 +13,7 @@ use borrow.Author.Tests.{lt-ltb, leb-true, ltb-true}
 use Rattle.rows.specs.Rows.{pick, part, le, rows, stays}
 use Rattle.rows.proofs.Laws.{part-length, word-le, drop-take, rows-part, rows-within, rows-length, rows-appended, appended-part, appended-before, appended-after, appended-length}
 use Rattle.anchors_cache.specs.declared.AnchorsCache.{AnchorsCache}
-use Rattle.cache_rules.specs.Rules.{Info, Anchor, Cache, Row, withRow, dropStale, nonempty, popFront, anchorTime, keepFront, trimBack, trim, entryOf, addAnchor, addInfo, emptyCache, total, maxAnchors, maxHistory, authorBytes, areaBytes}
+use Rattle.cache_rules.specs.Rules.{Info, Anchor, Cache, Row, withRow, dropStale, nonempty, popFront, anchorTime, keepFront, trimBack, trim, fromAnchor, addAnchor, addInfo, emptyCache, total, maxAnchors, maxHistory, authorBytes, areaBytes}
 use Rattle.anchors_cache.specs.Tables.{anchorRow, infoRow, anchorOf, infoOf, anchors, infos, anchorAt, withMessages, view, anchorsOf, historyOf, historyBytes, anchorBytes}
 use Rattle.anchors_cache.specs.Windows.{rowTime, poppedCache, poppedTimes, trimmedCache, noCache, inHistory, historyAdded, inCache, anchorAdded, messagesAdded, infoFor, usedBy, addedCache, addedTables, addedArea, Sound, Room}
 use Rattle.cache_rules.proofs.Lists.{stale-le}
@@ -349,7 +349,7 @@ module _ (tables area : List ℕ) (c : AnchorsCache) (s : Sound tables area c) (
   abbrev View-added : Type 0
   View-added = view (addedTables a c tables) (addedArea a messages tables c area) (addedCache a (length area) (length messages) tables c) ≡ addAnchor new (view tables area c)
 
-  entry-same : entryOf new ≡ infoFor a
+  entry-same : fromAnchor new ≡ infoFor a
   entry-same = rw (rows-length 33 (a .count) messages)
 
   view-none : ltb 0 (a .ours) ≡ false → View-added

@@ -10,7 +10,7 @@ use borrow.Author.Tests.{lt-ltb, le-ltb, lt-leb, le-leb}
 use lib.Dec.{ltb}
 use Rattle.rows.specs.Rows.{pick}
 use Rattle.rows.proofs.Laws.{pick-yes, pick-no}
-use Rattle.cache_rules.specs.Rules.{keepFront, Info, Anchor, Cache, Row, nonempty, maxAnchors, maxMessages, maxHistory, entryOf, addAnchor, addInfo, dropStale, popFront, trimBack, trimHistory, trimTo, aboveLast, room, anchorTime, trim, rowOf, withRow}
+use Rattle.cache_rules.specs.Rules.{keepFront, Info, Anchor, Cache, Row, nonempty, maxAnchors, maxMessages, maxHistory, fromAnchor, addAnchor, addInfo, dropStale, popFront, trimBack, trimHistory, trimTo, aboveLast, room, anchorTime, trim, rowOf, withRow}
 
 -- ---- add
 module _ (a : Anchor) (v : Cache) where
@@ -27,11 +27,11 @@ module _ (a : Anchor) (v : Cache) where
   an-anchor-with-ours-is-cached-last-and-pending h = rw (lt-ltb 0 (a .ours) h) (refl, refl)
 
   -- `add` is `add_imported_anchor_info` of the anchor's entry, then the cache
-  pub an-add's-history-is-that-of-its-entry-added : addAnchor a v .history ≡ addInfo (entryOf a) v .history
+  pub an-add's-history-is-that-of-its-entry-added : addAnchor a v .history ≡ addInfo (fromAnchor a) v .history
   unfolding addAnchor addInfo
   an-add's-history-is-that-of-its-entry-added = refl
 
-  pub an-add-without-ours-is-its-entry-added : a .ours ≡ 0 → addAnchor a v ≡ addInfo (entryOf a) v
+  pub an-add-without-ours-is-its-entry-added : a .ours ≡ 0 → addAnchor a v ≡ addInfo (fromAnchor a) v
   unfolding addAnchor addInfo
   an-add-without-ours-is-its-entry-added e = rw e
 

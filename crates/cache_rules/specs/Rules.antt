@@ -55,15 +55,15 @@ nonempty (x ∷ l) = true
 
 -- ---- add
 -- `AnchorInfo::from_anchor`
-abbrev pub entryOf : Anchor → Info
-entryOf a = record { id = a .id; time = a .time; all = length (a .messages); ours = a .ours; author = a .author }
+abbrev pub fromAnchor : Anchor → Info
+fromAnchor a = record { id = a .id; time = a .time; all = length (a .messages); ours = a .ours; author = a .author }
 
 -- to the history always, to the cache only where ours is above 0; then pending is set
 unfoldable pub addAnchor : Anchor → Cache → Cache
 addAnchor a v =
     record {
       anchors = pick (ltb 0 (a .ours)) (v .anchors ++ (a ∷ [])) (v .anchors);
-      history = v .history ++ (entryOf a ∷ []);
+      history = v .history ++ (fromAnchor a ∷ []);
       pending = pick (ltb 0 (a .ours)) true (v .pending);
     }
 

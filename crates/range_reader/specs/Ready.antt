@@ -49,8 +49,8 @@ pub record RangeReady (tables area : List ℕ) (c : AnchorsCache) (routes : List
   pub used : r .walk .buffers .used ≡ 0
 
 -- the six steps over the anchors that a window stands for
-abbrev pub windowRead : Context → List ℕ → List ℕ → List ℕ → AnchorsCache → RangeRead → Outcome RangeRead
-windowRead x routes tables area c begin = anchorsRead x routes (withMessages (drop (33 * c .base) area) (anchorsOf tables c)) (record { value = begin; entries = [] })
+abbrev pub wholeWindowRead : Context → List ℕ → List ℕ → List ℕ → AnchorsCache → RangeRead → Outcome RangeRead
+wholeWindowRead x routes tables area c begin = anchorsRead x routes (withMessages (drop (33 * c .base) area) (anchorsOf tables c)) (record { value = begin; entries = [] })
 
 -- a refused read leaves the output as it is, and so does one that does not write
 unfoldable pub readOrRefused : Bool → List ℕ → ℕ → Outcome RangeRead → Outcome RangeRead

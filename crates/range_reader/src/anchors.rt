@@ -10,7 +10,7 @@ ghost use Rattle.anchors_cache.specs.Tables.{anchors, anchorsOf, tablesBytes};
 ghost use Rattle.anchors_cache.specs.Calls.{anchorFound};
 ghost use Rattle.range_rules.specs.Rules.{offsetIn, refusedWith, looked, popped, expired, afterPop, leave, finished, anchorRead, fullyRead};
 ghost use Rattle.range_rules.specs.Refusals.{cannotRefuse};
-ghost use Rattle.range_reader.specs.Ready.{AnchorReady, RangeReady, Wrote, firstUnread, windowRead, readOrRefused};
+ghost use Rattle.range_reader.specs.Ready.{AnchorReady, RangeReady, Wrote, firstUnread, wholeWindowRead, readOrRefused};
 use crate::messages;
 use crate::refusals;
 use anchors_cache::AnchorsCache;
@@ -240,7 +240,7 @@ fn anchors_read(
     out: &mut [u8],
 ) -> RangeRead
     requires { ⌜ RangeReady (now tables) (now area) c (now routes) x begin (now out) ⌝ }
-    ensures { λ q. ⌜ Wrote write (begin .walk .buffers .used) (now (out .entry)) (now (out .exit)) q (windowRead x (now (routes .entry)) (now (tables .entry)) (now (area .entry)) c begin) ⌝ }
+    ensures { λ q. ⌜ Wrote write (begin .walk .buffers .used) (now (out .entry)) (now (out .exit)) q (wholeWindowRead x (now (routes .entry)) (now (tables .entry)) (now (area .entry)) c begin) ⌝ }
 {
     let mut r = begin;
     let mut at = c.first;
@@ -295,7 +295,7 @@ pub(crate) fn read_or_refuse(
     out: &mut [u8],
 ) -> RangeRead
     requires { ⌜ RangeReady (now tables) (now area) c (now routes) x begin (now out) ⌝ }
-    ensures { λ q. ⌜ record { value = q; entries = now (out .exit) } ≡ readOrRefused write (now (out .entry)) (begin .walk .buffers .used) (windowRead x (now (routes .entry)) (now (tables .entry)) (now (area .entry)) c begin) ⌝ }
+    ensures { λ q. ⌜ record { value = q; entries = now (out .exit) } ≡ readOrRefused write (now (out .entry)) (begin .walk .buffers .used) (wholeWindowRead x (now (routes .entry)) (now (tables .entry)) (now (area .entry)) c begin) ⌝ }
 {
     if writes_at_once(tables, c, routes, x, begin, write) {
         return anchors_read(tables, area, c, routes, x, begin, true, &mut *out);

@@ -45,9 +45,9 @@ abbrev pub followed : {A : Type 0} → Outcome A → Outcome A → Outcome A
 followed s t = record { value = t .value; entries = s .entries ++ t .entries }
 
 -- ---- the last chain time: milliseconds where a read saw one, else none
-abbrev pub timeSaid : LastChainTime → Option ℕ
-timeSaid Nothing = none
-timeSaid (Time time) = some (time .0)
+abbrev pub timeValue : LastChainTime → Option ℕ
+timeValue Nothing = none
+timeValue (Time time) = some (time .0)
 
 -- ---- places
 -- Step 3: "The saved end is reached when the id is above its id, or equal with equal offset."

@@ -35,7 +35,7 @@ use Rattle.reader_rules.specs.declared.Fixed.{Fixed}
 use Rattle.reader_rules.specs.declared.Imported.{Imported}
 use Rattle.reader_rules.specs.declared.RangesRead.{RangesRead}
 use Rattle.reader_rules.specs.State.{settingsNumber, settledNumber}
-use Rattle.reader_rules.specs.Rules.{rangesRead, fixedOf, atEntry, importedSaid}
+use Rattle.reader_rules.specs.Rules.{rangesRead, fixedOf, atEntry, importedValue}
 use Rattle.externals_reader.specs.Calls.{askedOfRead, windowRead, importedIn, allRead, readerAfter, ReadAllResult, unchanged, allResult, readAllCall, endOf}
 use Rattle.reader_laws.specs.AllRanges.{HandedAll, importedOf, bookFixed, rangeSteps, bookRange, bookAllRead, bookAsked, bookAllNumber, bookAllPops, readAllOnWindow}
 use Rattle.reader_rules.proofs.Turns.{two-ways-to-read-a-range-that-agree-read-all-alike}
@@ -57,10 +57,10 @@ unfolding view
 the-last-imported-entry-is-the-history's-last tables area c = refl
 
 -- in the paper's values: its id and message count
-pub the-block's-own-range-is-moved-to-the-last-entry's-id-and-message-count : (v : Cache) → importedSaid (importedOf v) ≡ countedEnd (lastOf (v .history))
+pub the-block's-own-range-is-moved-to-the-last-entry's-id-and-message-count : (v : Cache) → importedValue (importedOf v) ≡ countedEnd (lastOf (v .history))
 the-block's-own-range-is-moved-to-the-last-entry's-id-and-message-count v = go (lastOf (v .history))
   where
-    go : (o : Option Info) → importedSaid (endOf (infoFound o)) ≡ countedEnd o
+    go : (o : Option Info) → importedValue (endOf (infoFound o)) ≡ countedEnd o
     go none = refl
     go (some i) = refl
 

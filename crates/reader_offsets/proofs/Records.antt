@@ -12,6 +12,7 @@ use Rattle.messages_buffer.specs.declared.ExternalsPartitionRangeReaderState.{E
 use Rattle.range_rules.specs.declared.ExternalsRangeReaderState.{ExternalsRangeReaderState}
 use Rattle.reader_rules.specs.declared.ExternalsPartitionReaderState.{ExternalsPartitionReaderState}
 use Rattle.reader_rules.specs.declared.Tally.{Tally}
+use Rattle.reader_rules.specs.State.{withFullyRead}
 use Rattle.reader_rules.specs.Offsets.{collected, tallied, withOffsets, dropped, skipRaised, offsetRaised, marked}
 
 module _ (x : ExternalsPartitionRangeReaderState) where
@@ -84,20 +85,5 @@ module _ (x : ExternalsPartitionRangeReaderState) where
         present-collects e = sym (empty-collected ∙ ap (λ (k : ℕ). leb (x .«skip_offset») k) (pick-yes _ _ _ e))
 
 module _ (r : ExternalsRangeReaderState) where
-  abbrev marked-as : Bool → ExternalsRangeReaderState
-  marked-as b =
-      record {
-        seqno = r .seqno;
-        from = r .from;
-        to = r .to;
-        «current_position» = r .«current_position»;
-        «chain_time» = r .«chain_time»;
-        «fully_read» = b;
-        «by_partitions» = r .«by_partitions»;
-      }
-
-  pub not-at-end : keyEqual (r .«current_position») (r .to) ≡ false → r ≡ marked r
-  not-at-end e = sym (ap (λ (b : Bool). marked-as (b || r .«fully_read»)) e)
-
-  pub at-end : keyEqual (r .«current_position») (r .to) ≡ true → marked-as true ≡ marked r
-  at-end e = sym (ap (λ (b : Bool). marked-as (b || r .«fully_read»)) e)
+  pub at-end : keyEqual (r .«current_position») (r .to) ≡ true → withFullyRead r true ≡ marked r
+  at-end e = sym (ap (λ (b : Bool). withFullyRead r (b || r .«fully_read»)) e)

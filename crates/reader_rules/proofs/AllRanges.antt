@@ -20,7 +20,7 @@ use Rattle.range_rules.specs.declared.ReadCounts.{ReadCounts}
 use Rattle.range_rules.specs.declared.LastChainTime.{LastChainTime}
 use Rattle.range_rules.specs.declared.LastChainTime.the-variants.{Nothing, Time}
 use Rattle.range_rules.specs.declared.ReadNextExternalsMode.the-variants.{ToTheEnd, ToPreviuosReadTo}
-use Rattle.range_rules.specs.Rules.{Outcome, silent, followed, noKey, timeSaid}
+use Rattle.range_rules.specs.Rules.{Outcome, silent, followed, noKey, timeValue}
 use Rattle.reader_rules.specs.declared.ExternalsPartitionReaderState.{ExternalsPartitionReaderState}
 use Rattle.reader_rules.specs.declared.GetNextMessageGroupMode.the-variants.{Continue, Refill}
 use Rattle.reader_rules.specs.declared.Imported.the-variants.{End}
@@ -28,21 +28,9 @@ use Rattle.reader_rules.specs.declared.Fixed.{Fixed}
 use Rattle.reader_rules.specs.declared.RangesRead.{RangesRead}
 use Rattle.reader_rules.specs.declared.SoFar.{SoFar}
 use Rattle.reader_rules.specs.declared.ExternalsReaderState.{ExternalsReaderState}
-use Rattle.reader_rules.specs.State.{noRange, noReaderPartition, openRangesLimit}
+use Rattle.reader_rules.specs.State.{noRange, noReaderPartition, withFullyRead, withToAndPosition, openRangesLimit}
 use Rattle.reader_rules.proofs.Each.{each-at, each-length}
 use Rattle.reader_rules.specs.Rules.{withDefault, partitionsEntered, rangeEntered, rangesEntered, lastOr, nextPartition, nextRange, continues, wantsNext, reached, beforeSkipOffsets, isOwn, waits, isSkipped, modeFor, movedToEnd, settled, Told, numbered, notAllRead, added, readOf, afterTurn, sums, countsAdded, OneRange, readTurn, turn, isOver, turns, withNextRange, atEntry, timeSaved}
-
-abbrev markedAs : ExternalsRangeReaderState → Bool → ExternalsRangeReaderState
-markedAs r mark =
-    record {
-      seqno = r .seqno;
-      from = r .from;
-      to = r .to;
-      «current_position» = r .«current_position»;
-      «chain_time» = r .«chain_time»;
-      «fully_read» = mark;
-      «by_partitions» = r .«by_partitions»;
-    }
 
 -- ---- `new`
 pub a-partition-that-is-there-stays : (limit : ℕ) (p : ExternalsPartitionReaderState) → p .present ≡ true → withDefault limit p ≡ p
@@ -72,7 +60,7 @@ a-range-is-fully-read-exactly-where-its-position-is-to r = refl
 
 -- `new` changes the mark and nothing else of a range, and no slot behind the ranges
 pub a-range-whose-mark-is-right-is-entered-as-it-is : (r : ExternalsRangeReaderState) → keyEqual (r .«current_position») (r .to) ≡ r .«fully_read» → rangeEntered r ≡ r
-a-range-whose-mark-is-right-is-entered-as-it-is r e = ap (markedAs r) e
+a-range-whose-mark-is-right-is-entered-as-it-is r e = ap (withFullyRead r) e
 
 pub the-slots-behind-the-ranges-stay : (a b c : ExternalsRangeReaderState) → rangesEntered 2 (a ∷ b ∷ c ∷ []) ≡ rangeEntered a ∷ rangeEntered b ∷ c ∷ []
 the-slots-behind-the-ranges-stay a b c = refl
@@ -216,19 +204,7 @@ module _ (x : Fixed) (range : ExternalsRangeReaderState) where
       (ap (λ (q : ExternalsRangeReaderState). q .«current_position») h, ap (λ (q : ExternalsRangeReaderState). q .to) h)
 
 pub a-range-that-stands-at-the-last-imported-entry-stays-as-it-is : (key : ExternalKey) (r : ExternalsRangeReaderState) → r .«current_position» ≡ key → r .to ≡ key → movedToEnd (End key) r ≡ r
-a-range-that-stands-at-the-last-imported-entry-stays-as-it-is key r p t = ap (λ (k : ExternalKey). placed key k) (sym p) ∙ ap (λ (k : ExternalKey). placed k (r .«current_position»)) (sym t)
-  where
-    placed : ExternalKey → ExternalKey → ExternalsRangeReaderState
-    placed to position =
-        record {
-          seqno = r .seqno;
-          from = r .from;
-          to = to;
-          «current_position» = position;
-          «chain_time» = r .«chain_time»;
-          «fully_read» = r .«fully_read»;
-          «by_partitions» = r .«by_partitions»;
-        }
+a-range-that-stands-at-the-last-imported-entry-stays-as-it-is key r p t = ap (λ (k : ExternalKey). withToAndPosition r key k) (sym p) ∙ ap (λ (k : ExternalKey). withToAndPosition r k (r .«current_position»)) (sym t)
 
 -- ---- what a turn comes to
 -- at entry nothing is popped, written or counted, and no range is yet known not to be read
@@ -342,6 +318,6 @@ pub a-seen-chain-time-is-saved : (time : ChainTime) (saved : LastChainTime) → 
 a-seen-chain-time-is-saved time saved = refl
 
 -- in the paper's values: the time that was seen, else the one saved before
-pub the-saved-time-is-the-one-seen-else-the-one-before : (seen saved : LastChainTime) → timeSaid (timeSaved seen saved) ≡ orElse (timeSaid seen) (timeSaid saved)
+pub the-saved-time-is-the-one-seen-else-the-one-before : (seen saved : LastChainTime) → timeValue (timeSaved seen saved) ≡ orElse (timeValue seen) (timeValue saved)
 the-saved-time-is-the-one-seen-else-the-one-before Nothing saved = refl
 the-saved-time-is-the-one-seen-else-the-one-before (Time time) saved = refl

@@ -15,7 +15,7 @@ use Rattle.messages_buffer.specs.declared.ExternalsPartitionRangeReaderState.{E
 use Rattle.range_rules.specs.declared.ExternalsRangeReaderState.{ExternalsRangeReaderState}
 use Rattle.reader_rules.specs.declared.ExternalsPartitionReaderState.{ExternalsPartitionReaderState}
 use Rattle.reader_rules.specs.declared.ExternalsReader.{ExternalsReader}
-use Rattle.reader_rules.specs.State.{heldRanges, noReaderPartition, withState}
+use Rattle.reader_rules.specs.State.{heldRanges, noReaderPartition, withFullyRead, withState}
 use Rattle.reader_rules.specs.Offsets.{withOffsets, withCount, dropped, skipRaised, offsetRaised, withOffset, withProcessedTo, withRecords, fromPosition, marked, raisedRange, withRanges, withHeld, onPartition}
 use Rattle.reader_rules.proofs.Each.{each-length}
 
@@ -77,19 +77,7 @@ module _ (r : ExternalsRangeReaderState) where
   finalize-marks-a-range-at-its-end e = or-here _ (r .«fully_read») e
 
   pub finalize-leaves-a-range-that-is-not-at-its-end : keyEqual (r .«current_position») (r .to) ≡ false → marked r ≡ r
-  finalize-leaves-a-range-that-is-not-at-its-end e = ap (λ (b : Bool). markedBy (b || r .«fully_read»)) e
-    where
-      markedBy : Bool → ExternalsRangeReaderState
-      markedBy mark =
-          record {
-            seqno = r .seqno;
-            from = r .from;
-            to = r .to;
-            «current_position» = r .«current_position»;
-            «chain_time» = r .«chain_time»;
-            «fully_read» = mark;
-            «by_partitions» = r .«by_partitions»;
-          }
+  finalize-leaves-a-range-that-is-not-at-its-end e = ap (λ (b : Bool). withFullyRead r (b || r .«fully_read»)) e
 
   pub a-finalized-range-has-eight-records : (ps : List ExternalsPartitionReaderState) (l : List ExternalsRangeReaderState) → length (raisedRange ps l r .«by_partitions») ≡ 8
   a-finalized-range-has-eight-records ps l = each-length 8 _

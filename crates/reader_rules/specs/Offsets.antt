@@ -13,7 +13,7 @@ use Rattle.range_rules.specs.declared.ExternalsRangeReaderState.{ExternalsRange
 use Rattle.reader_rules.specs.declared.ExternalsPartitionReaderState.{ExternalsPartitionReaderState}
 use Rattle.reader_rules.specs.declared.ExternalsReader.{ExternalsReader}
 use Rattle.reader_rules.specs.Each.{each}
-use Rattle.reader_rules.specs.State.{noRange, noReaderPartition, withState}
+use Rattle.reader_rules.specs.State.{noRange, noReaderPartition, withFullyRead, withState}
 use Rattle.reader_rules.specs.declared.ByPartitions.{ByPartitions}
 use Rattle.reader_rules.specs.declared.PartitionTest.{PartitionTest}
 use Rattle.reader_rules.specs.declared.PartitionTest.the-variants.{InRange, InReader, Unprocessed, Empty, Reached, Collected}
@@ -164,16 +164,7 @@ fromPosition r =
 
 -- a range at its end is fully read; no mark is cleared
 abbrev pub marked : ExternalsRangeReaderState → ExternalsRangeReaderState
-marked r =
-    record {
-      seqno = r .seqno;
-      from = r .from;
-      to = r .to;
-      «current_position» = r .«current_position»;
-      «chain_time» = r .«chain_time»;
-      «fully_read» = keyEqual (r .«current_position») (r .to) || r .«fully_read»;
-      «by_partitions» = r .«by_partitions»;
-    }
+marked r = withFullyRead r (keyEqual (r .«current_position») (r .to) || r .«fully_read»)
 
 abbrev pub raisedRange : List ExternalsPartitionReaderState → List ExternalsRangeReaderState → ExternalsRangeReaderState → ExternalsRangeReaderState
 raisedRange ps l r = withRecords (each 8 (λ i. offsetRaised (readerPartition i ps) (tallyOf i l .processed) (recordOf i r))) r

@@ -29,7 +29,7 @@ use Rattle.reader_rules.specs.declared.Imported.the-variants as imported
 use Rattle.reader_rules.specs.declared.Fixed.{Fixed}
 use Rattle.reader_rules.specs.declared.RangesRead.{RangesRead}
 use Rattle.reader_rules.specs.declared.SoFar.{SoFar}
-use Rattle.reader_rules.specs.State.{noRange, noReaderPartition, openRangesLimit}
+use Rattle.reader_rules.specs.State.{noRange, noReaderPartition, openRangesLimit, withFullyRead, withToAndPosition}
 use Rattle.reader_rules.specs.Each.{each}
 use Rattle.range_rules.specs.declared.ProcessedTo.{ProcessedTo}
 use Rattle.reader_rules.specs.declared.ExternalsReaderState.{ExternalsReaderState}
@@ -45,16 +45,7 @@ partitionsEntered limits ps = each 8 (λ i. withDefault (getD limits i 0) (getD 
 
 -- fully read exactly where the position is "to"
 abbrev pub rangeEntered : ExternalsRangeReaderState → ExternalsRangeReaderState
-rangeEntered r =
-    record {
-      seqno = r .seqno;
-      from = r .from;
-      to = r .to;
-      «current_position» = r .«current_position»;
-      «chain_time» = r .«chain_time»;
-      «fully_read» = keyEqual (r .«current_position») (r .to);
-      «by_partitions» = r .«by_partitions»;
-    }
+rangeEntered r = withFullyRead r (keyEqual (r .«current_position») (r .to))
 
 abbrev pub rangesEntered : ℕ → List ExternalsRangeReaderState → List ExternalsRangeReaderState
 rangesEntered len ranges = sets ranges 0 (map rangeEntered (take len ranges))
@@ -139,21 +130,12 @@ modeFor x seqno = pick (isOwn x seqno) ToTheEnd ToPreviuosReadTo
 
 abbrev pub movedToEnd : Imported → ExternalsRangeReaderState → ExternalsRangeReaderState
 movedToEnd imported.Nothing r = r
-movedToEnd (End key) r =
-    record {
-      seqno = r .seqno;
-      from = r .from;
-      to = key;
-      «current_position» = key;
-      «chain_time» = r .«chain_time»;
-      «fully_read» = r .«fully_read»;
-      «by_partitions» = r .«by_partitions»;
-    }
+movedToEnd (End key) r = withToAndPosition r key key
 
 -- the key that a range's position and "to" become, or none
-abbrev pub importedSaid : Imported → Option ExternalKey
-importedSaid imported.Nothing = none
-importedSaid (End key) = some key
+abbrev pub importedValue : Imported → Option ExternalKey
+importedValue imported.Nothing = none
+importedValue (End key) = some key
 
 -- "When a read in this call leaves the block's own range fully read and history is nonempty, position and "to" become
 -- the last imported entry's id and message count."

@@ -1,10 +1,11 @@
--- Questions 4 and 5 of the reader, and its limit of open ranges.
+-- Questions 4 and 5 of the reader, its limit of open ranges, and a range or the reader changed in one place.
 use Prim.Native.Nat.{ℕ, suc}
 use mathlib.Core.Bool.{Bool, true, false, _&&_}
 use mathlib.Core.List.{List, [], _∷_}
 use lib.Dec.{leb, ltb, eqb}
 use lib.ListN.{take}
 use Rattle.rows.specs.Rows.{pick}
+use Rattle.ext_types.specs.declared.ExternalKey.{ExternalKey}
 use Rattle.messages_buffer.specs.Fullness.{firstNo, limitsNumber, partitionsNumber}
 use Rattle.range_rules.specs.declared.ExternalsRangeReaderState.{ExternalsRangeReaderState}
 use Rattle.range_rules.specs.Rules.{noKey}
@@ -71,7 +72,33 @@ settingsNumber limits most = firstNo (limitsNumber limits ∷ pick (leb most max
 abbrev pub openRangesLimit : MsgsExecutionParams → ℕ
 openRangesLimit params = pick (ltb (params .«open_ranges_limit») 2) 2 (params .«open_ranges_limit»)
 
--- ---- the reader changed in one place
+-- ---- a range or the reader changed in one place
+-- a range with another fully-read mark
+abbrev pub withFullyRead : ExternalsRangeReaderState → Bool → ExternalsRangeReaderState
+withFullyRead r mark =
+    record {
+      seqno = r .seqno;
+      from = r .from;
+      to = r .to;
+      «current_position» = r .«current_position»;
+      «chain_time» = r .«chain_time»;
+      «fully_read» = mark;
+      «by_partitions» = r .«by_partitions»;
+    }
+
+-- a range with another "to" and another position
+abbrev pub withToAndPosition : ExternalsRangeReaderState → ExternalKey → ExternalKey → ExternalsRangeReaderState
+withToAndPosition r to position =
+    record {
+      seqno = r .seqno;
+      from = r .from;
+      to = to;
+      «current_position» = position;
+      «chain_time» = r .«chain_time»;
+      «fully_read» = r .«fully_read»;
+      «by_partitions» = r .«by_partitions»;
+    }
+
 abbrev pub withState : ExternalsReader → ExternalsReaderState → ExternalsReader
 withState r s =
     record {

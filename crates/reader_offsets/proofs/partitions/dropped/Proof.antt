@@ -1,7 +1,4 @@
 -- The skip offset stays or goes.
--- The skip offset stays or goes.
--- The skip offset stays or goes.
--- The skip offset stays or goes.
 use borrow.Author.Tests.{not-true, not-false}
 use Rattle.reader_offsets.proofs.Records.{skip-stays, skip-goes}
 use Rattle.reader_offsets.proofs.partitions.dropped.Statement.{statement}

@@ -1,7 +1,4 @@
 -- The loop keeps that each partition passed meets the test.
--- The loop keeps that each partition passed meets the test.
--- The loop keeps that each partition passed meets the test.
--- The loop keeps that each partition passed meets the test.
 use Prim.Native.Nat.{ℕ, _-_, _≤_}
 use mathlib.Core.Bool.{true}
 use mathlib.Core.Path.{_≡_, sym, ap, _∙_}

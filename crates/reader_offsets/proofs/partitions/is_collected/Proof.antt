@@ -1,7 +1,4 @@
 -- The tests in order.
--- The tests in order.
--- The tests in order.
--- The tests in order.
 use borrow.Author.Tests.{not-true, not-false}
 use Rattle.reader_offsets.proofs.Records.{absent-collected, held-messages, missing-is-0, present-collects}
 use Rattle.reader_offsets.proofs.partitions.is_collected.Statement.{statement}

@@ -1,7 +1,4 @@
 -- Each arm is its case of the definition.
--- Each arm is its case of the definition.
--- Each arm is its case of the definition.
--- Each arm is its case of the definition.
 use borrow.Author.Needs.{needs}
 use Rattle.reader_rules.specs.Offsets.{meets}
 use Rattle.reader_offsets.proofs.partitions.meets.Statement.{statement}

@@ -1,7 +1,4 @@
 -- Three cases of the definition.
--- Three cases of the definition.
--- Three cases of the definition.
--- Three cases of the definition.
 use borrow.Author.Tests.{not-true, not-false}
 use Rattle.reader_offsets.proofs.Records.{absent-stays, not-above-stays, above-raises}
 use Rattle.reader_offsets.proofs.partitions.raised.Statement.{statement}

@@ -1,7 +1,4 @@
 -- Two cases of the definition.
--- Two cases of the definition.
--- Two cases of the definition.
--- Two cases of the definition.
 use Rattle.reader_offsets.proofs.Records.{offset-stays, offset-set}
 use Rattle.reader_offsets.proofs.partitions.skip_raised.Statement.{statement}
 use Rattle.reader_offsets.proofs.partitions.skip_raised.Tie as tie

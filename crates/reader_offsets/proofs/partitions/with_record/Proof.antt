@@ -1,7 +1,4 @@
 -- Past the end nothing is stored.
--- Past the end nothing is stored.
--- Past the end nothing is stored.
--- Past the end nothing is stored.
 use mathlib.Core.List.{List}
 use mathlib.Core.Path.{_≡_, sym, ap, _∙_}
 use native.Mathlib.Omega.{arith}

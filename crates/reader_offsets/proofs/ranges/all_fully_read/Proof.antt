@@ -1,7 +1,4 @@
 -- The loop keeps that the ranges left decide.
--- The loop keeps that the ranges left decide.
--- The loop keeps that the ranges left decide.
--- The loop keeps that the ranges left decide.
 use Prim.Native.Nat.{_+_, _≤_}
 use mathlib.Core.Path.{_≡_, refl, sym, _∙_}
 use native.Mathlib.Omega.{arith}

@@ -1,7 +1,4 @@
 -- The slot before the end.
--- The slot before the end.
--- The slot before the end.
--- The slot before the end.
 use mathlib.Core.Path.{_≡_, sym, _∙_}
 use native.Mathlib.Omega.{arith}
 use lib.ListN.{length, length-map}

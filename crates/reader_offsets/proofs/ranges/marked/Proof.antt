@@ -1,11 +1,9 @@
 -- A range at its end gets the mark.
--- A range at its end gets the mark.
--- A range at its end gets the mark.
--- A range at its end gets the mark.
 use mathlib.Core.Path.{sym, _∙_}
 use borrow.Author.Tests.{not-true, not-false}
 use borrow.Author.Needs.{needs}
-use Rattle.reader_offsets.proofs.Records.{not-at-end, at-end}
+use Rattle.reader_rules.proofs.Offsets.{finalize-leaves-a-range-that-is-not-at-its-end}
+use Rattle.reader_offsets.proofs.Records.{at-end}
 use Rattle.reader_offsets.proofs.ranges.marked.Statement.{statement}
 use Rattle.reader_offsets.proofs.ranges.marked.Tie as tie
 
@@ -13,7 +11,7 @@ key-equal-requires : tie.Need-key-equal-requires
 key-equal-requires c κs = search needs
 
 returns : tie.Need-returns
-returns c = not-at-end (c .before .before .before .before .args .range) (sym (c .before .key-equal .ensures) ∙ not-true _ (c .if1 .taken))
+returns c = sym (finalize-leaves-a-range-that-is-not-at-its-end (c .before .before .before .before .args .range) (sym (c .before .key-equal .ensures) ∙ not-true _ (c .if1 .taken)))
 
 returns-2 : tie.Need-returns-2
 returns-2 c = at-end (c .before .before .before .before .args .range) (sym (c .before .key-equal .ensures) ∙ not-false _ (c .if1 .left))

@@ -1,7 +1,4 @@
 -- The loop keeps that the slots passed are marked.
--- The loop keeps that the slots passed are marked.
--- The loop keeps that the slots passed are marked.
--- The loop keeps that the slots passed are marked.
 use Prim.Native.Nat.{ℕ, _-_, _≤_}
 use mathlib.Core.List.{_++_, map}
 use mathlib.Core.Path.{_≡_, refl, ap, _∙_}

@@ -1,7 +1,4 @@
 -- The loop keeps that the place is found in the ranges left.
--- The loop keeps that the place is found in the ranges left.
--- The loop keeps that the place is found in the ranges left.
--- The loop keeps that the place is found in the ranges left.
 use Prim.Native.Nat.{_+_, _≤_}
 use mathlib.Core.Path.{_≡_, sym, _∙_}
 use native.Mathlib.Omega.{arith}

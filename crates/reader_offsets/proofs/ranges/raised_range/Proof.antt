@@ -1,5 +1,4 @@
 -- The loop keeps that the partitions passed are filled in.
--- The loop keeps that the partitions passed are filled in.
 use Prim.Native.Nat.{ℕ, _-_, _≤_}
 use mathlib.Core.List.{List}
 use mathlib.Core.Path.{_≡_, sym, ap, _∙_}

@@ -1,7 +1,4 @@
 -- The slot, or past the end the default.
--- The slot, or past the end the default.
--- The slot, or past the end the default.
--- The slot, or past the end the default.
 use mathlib.Core.Path.{_≡_, sym, ap, _∙_}
 use native.Mathlib.Omega.{arith}
 use lib.ListN.{length, length-map}

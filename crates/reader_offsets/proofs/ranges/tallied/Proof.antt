@@ -1,7 +1,4 @@
 -- Three cases of the definition.
--- Three cases of the definition.
--- Three cases of the definition.
--- Three cases of the definition.
 use borrow.Author.Tests.{not-true, not-false}
 use borrow.Author.Needs.{needs}
 use Rattle.reader_offsets.proofs.Records.{absent-counts-nothing, smaller-counted, larger-counted}

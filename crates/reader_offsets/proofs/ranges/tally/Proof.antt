@@ -1,7 +1,4 @@
 -- The loop keeps that the ranges left complete the tally.
--- The loop keeps that the ranges left complete the tally.
--- The loop keeps that the ranges left complete the tally.
--- The loop keeps that the ranges left complete the tally.
 use Prim.Native.Nat.{_+_, _-_, _*_, _≤_}
 use mathlib.Core.Path.{_≡_, refl, sym, ap, _∙_}
 use native.Mathlib.Omega.{arith}

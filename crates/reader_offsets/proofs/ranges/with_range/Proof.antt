@@ -1,7 +1,4 @@
 -- One slot of the list changes.
--- One slot of the list changes.
--- One slot of the list changes.
--- One slot of the list changes.
 use mathlib.Core.Path.{_≡_, sym, _∙_}
 use native.Mathlib.Omega.{arith}
 use lib.ListN.{length, length-map}

@@ -15,22 +15,22 @@ use Rattle.cache_rules.specs.Rules.{Info, Anchor}
 use Rattle.anchors_cache.specs.Calls.{infoWith}
 
 -- an anchor with its messages, which stand in the area from its place on
-abbrev pub anchorSaid : List ℕ → FoundAnchor → List ℕ → Option Anchor
-anchorSaid area anchor.Nothing author = none
-anchorSaid area (anchor.Anchor a) author =
+abbrev pub anchorValue : List ℕ → FoundAnchor → List ℕ → Option Anchor
+anchorValue area anchor.Nothing author = none
+anchorValue area (anchor.Anchor a) author =
     some (record { id = a .id; time = a .«chain_time» .0; author = author; ours = a .ours; messages = rows 33 (a .count) (drop (33 * a .place) area) })
 
-abbrev pub infoSaid : FoundInfo → List ℕ → Option Info
-infoSaid info.Nothing author = none
-infoSaid (info.Info e) author = some (infoWith e author)
+abbrev pub infoValue : FoundInfo → List ℕ → Option Info
+infoValue info.Nothing author = none
+infoValue (info.Info e) author = some (infoWith e author)
 
 pub record IdAndTime : Type 0 where
   pub id : ℕ
   pub time : ℕ
 
-abbrev pub idSaid : FoundId → Option IdAndTime
-idSaid id.Nothing = none
-idSaid (id.Id k time) = some (record { id = k; time = time .0 })
+abbrev pub idValue : FoundId → Option IdAndTime
+idValue id.Nothing = none
+idValue (id.Id k time) = some (record { id = k; time = time .0 })
 
 -- "its id and chain time"
 abbrev pub idAndTime : Option Info → Option IdAndTime
