@@ -14,7 +14,7 @@ use Rattle.anchors_cache.specs.declared.FoundAnchor.the-variants as anchor
 use Rattle.anchors_cache.specs.declared.FoundInfo.the-variants as info
 use Rattle.anchors_cache.specs.declared.FoundId.the-variants as id
 use Rattle.anchors_cache.specs.Tables.{historyBytes, tablesBytes, anchorAt, infoAt}
-use Rattle.anchors_cache.specs.Windows.{anyPlaces}
+use Rattle.anchors_cache.specs.Windows.{noCache, anyPlaces}
 use Rattle.anchors_cache.specs.Calls.{placesIn, rowAt, infoRowAt, withCache, infoAnswer, idAnswer, getAnswer, flagAnswer, popAnswer, trimAnswer, rowFor, answer, refusalAt, closedTransaction, closeCall}
 
 -- ---- refused: none, false, and an author of zeros
@@ -32,6 +32,9 @@ module _ (n : ℕ) where
 
 pub a-transaction-with-its-own-cache-stays : (t : AnchorsCacheTransaction) → withCache t (t .cache) ≡ t
 a-transaction-with-its-own-cache-stays t = refl
+
+pub a-new-or-cleared-cache-begins-at-the-start-of-tables-and-area : (noCache .first ≡ 0) × (noCache .«history_first» ≡ 0) × (noCache .base ≡ 0)
+a-new-or-cleared-cache-begins-at-the-start-of-tables-and-area = (refl, refl, refl)
 
 pub a-new-transaction-is-not-open-and-has-no-mark : (closedTransaction .active ≡ false) × (closedTransaction .committed ≡ false)
 a-new-transaction-is-not-open-and-has-no-mark = (refl, refl)

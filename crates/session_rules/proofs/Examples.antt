@@ -7,14 +7,15 @@ use lib.IntN.{pos}
 use lib.ListN.{take, replicate}
 use Rattle.rows.specs.Rows.{word, numAt, rows, findRow, sameBytes}
 use Rattle.reader_rules.specs.declared.ExternalsReader.{ExternalsReader}
+use Rattle.shard_ident.specs.declared.ShardIdent.{ShardIdent}
 use Rattle.shard_ident.specs.Shard.{lowestSet, isShard}
 use Rattle.messages_buffer.specs.Fullness.{every, limitsNumber, firstNo}
-use Rattle.records.specs.Records.{paramsOf, limitsOf}
+use Rattle.records.specs.Records.{paramsOf, limitsOf, limitsIn}
 use Rattle.reader_rules.specs.Each.{each}
 use Rattle.reader_rules.specs.State.{heldRanges, soundRangesFrom, stateNumber, settingsNumber, settledNumber, readerNumber}
 use Rattle.reader_rules.specs.Rules.{withDefault, partitionsEntered}
 use Rattle.externals_reader.specs.declared.ReaderDone.{ReaderDone}
-use Rattle.externals_reader.specs.Calls.{isPresent, newCall}
+use Rattle.externals_reader.specs.Calls.{isPresent, handedIn, newCall}
 use Rattle.session_rules.specs.declared.Session.{Session}
 use Rattle.session_rules.specs.Said.{withTransaction, withRoutesLen, withRecordCount, withAt, stop, recordCounted, newSession, routeNumber, messagesOf, oursOf, isRead, doName}
 use Rattle.session_rules.specs.Steps.{withShard, noState, settingsDone, noReader, reachesReader}
@@ -48,6 +49,11 @@ the-reader-begins-without-ranges-and-partitions = (refl, refl)
 
 pub a-reader-with-its-own-shard-stays : (r : ExternalsReader) → withShard r (r .«for_shard_id») ≡ r
 a-reader-with-its-own-shard-stays r = refl
+
+-- whatever else it holds before them
+pub the-settings-take-only-the-shard-of-the-reader-before-them : (r before : ExternalsReader) (p : List ℕ) → r .«for_shard_id» ≡ before .«for_shard_id» → settingsDone r p ≡ settingsDone before p
+unfolding settingsDone
+the-settings-take-only-the-shard-of-the-reader-before-them r before p e = ap (λ (shard : ShardIdent). newCall (handedIn shard (numAt 4 12 p) (record { 0 = numAt 8 0 p }) (paramsOf p) (limitsIn p) noState)) e
 
 -- ---- 0003: next chain time 61000, timeout 60, seqno 5, open-ranges limit 4, none waiting, limit 2 for partition 0
 abbrev settings : List ℕ
