@@ -4,6 +4,8 @@ use mathlib.Core.Path.{_≡_, refl}
 use mathlib.Core.Bool.{true, false}
 use mathlib.Core.List.{List}
 use Rattle.ext_types.specs.declared.ChainTime.{ChainTime}
+use Rattle.shard_ident.specs.Shard as shard
+use Rattle.router.specs.Router as router
 use Rattle.anchors_cache.specs.declared.AnchorInfo.{AnchorInfo}
 use Rattle.anchors_cache.specs.declared.CachedAnchor.{CachedAnchor}
 use Rattle.anchors_cache.specs.declared.FoundAnchor.the-variants as front
@@ -19,7 +21,7 @@ use Rattle.range_reader.specs.declared.ReadExternals.{ReadExternals}
 use Rattle.host.specs.declared.Externals.{Externals}
 use Rattle.host.specs.declared.Reader.{Reader}
 use Rattle.host.specs.Shapes.{rangeMode, lastTime, savedTime, readerOf, heldReader, anchorShown, infoShown}
-use Rattle.host.specs.Calls.{readAllShown, readAll, readRangeShown}
+use Rattle.host.specs.Calls.{oursShown, partitionShown, readAllShown, readAll, readRangeShown}
 
 -- ---- modes
 pub the-flag-of-a-read-of-all-says-Refill-or-Continue : (out tables area routes : List ℕ) (e : Externals)
@@ -49,6 +51,11 @@ module _ (number : ℕ) (author : List ℕ) where
       (anchorShown number front.Nothing author ≡ record { number = number; found = false; anchor = record { id = 0; «chain_time» = record { 0 = 0 }; ours = 0; count = 0; place = 0 }; author = author })
       × (infoShown number last.Nothing author ≡ record { number = number; found = false; info = record { id = 0; ct = record { 0 = 0 }; «all_exts_count» = 0; «our_exts_count» = 0 }; author = author })
   nothing-found-is-zeros-without-a-mark = (refl, refl)
+
+-- ---- whose a message is, and its partition
+pub the-host-is-told-what-the-shard-and-the-router-answer : (a : shard.Answer) (b : router.Answer)
+    → (oursShown a .number ≡ a .number) × (oursShown a .flag ≡ a .ours) × (partitionShown b .number ≡ b .number) × (partitionShown b .partition ≡ b .value)
+the-host-is-told-what-the-shard-and-the-router-answer a b = (refl, refl, refl, refl)
 
 -- ---- what a read answers
 pub the-host-is-told-the-number-bytes-and-counts-of-a-read-of-all : (was : Reader) (a : ReadIntoBuffers)

@@ -1,15 +1,16 @@
--- What a read of all keeps: question 5 of its reader; and what it answers: numbers 10 to 14, sums within a cap.
+-- What a read of all keeps: question 5 of its reader; and what it answers: the mark, numbers 10 to 14, sums within a cap.
 use Prim.Native.Nat.{ℕ, _≤_}
-use mathlib.Core.Path.{_≡_, refl, sym, subst, _∙_}
-use mathlib.Core.Bool.{Bool, true, false}
+use mathlib.Core.Path.{_≡_, refl, sym, ap, subst, _∙_}
+use mathlib.Core.Bool.{Bool, true, false, _||_}
 use mathlib.Core.List.{List, [], _∷_}
 use mathlib.Core.Logic.{_⊎_, inl, inr}
 use native.Mathlib.Omega.{arith}
 use lib.Dec.{eqb}
-use lib.ListN.{length}
+use lib.ListN.{length, take}
+use lib.Seq.{sets}
 use borrow.Author.Tests.{eqb-true, eqb-false}
 use Rattle.rows.specs.Rows.{pick}
-use Rattle.rows.proofs.Laws.{pick-both}
+use Rattle.rows.proofs.Laws.{pick-both, or-here}
 use Rattle.messages_buffer.specs.Fullness.{allLimited, limitedNumber, firstNo}
 use Rattle.messages_buffer.proofs.Laws.{first-zero, first-alone}
 use Rattle.anchors_cache.specs.declared.AnchorsCacheTransaction.{AnchorsCacheTransaction}
@@ -33,9 +34,11 @@ use Rattle.reader_rules.specs.declared.Fixed.{Fixed}
 use Rattle.reader_rules.specs.declared.RangesRead.{RangesRead}
 use Rattle.reader_rules.specs.State.{heldRanges, maxRanges, soundRangesFrom, settledNumber, stateNumber}
 use Rattle.reader_rules.specs.Rules.{fixedOf, atEntry, rangesRead}
+use Rattle.reader_rules.specs.Offsets.{allFullyRead}
 use Rattle.reader_rules.proofs.Kept.{Eight, LeftOf, Sound, a-read-of-all-keeps-question-5}
+use Rattle.reader_rules.proofs.Marks.{the-mark-says-whether-every-range-is-fully-read}
 use Rattle.reader_rules.proofs.Sums.{maxSum, each-sum-is-at-most-1024-for-each-of-16-ranges, the-number-of-a-read-of-all-is-0-or-a-range's}
-use Rattle.externals_reader.specs.Calls.{askedOfRead, told, toldBy, windowRead, importedIn, allRead, ReadAllResult, unchanged, allResult, readAllCall}
+use Rattle.externals_reader.specs.Calls.{askedOfRead, told, toldBy, windowRead, importedIn, allRead, readerAfter, ReadAllResult, unchanged, allResult, readAllCall}
 use Rattle.externals_reader.specs.Ready.{Start}
 use Rattle.externals_reader.proofs.Sound.{by-ranges, sound-parts, sound-table}
 use Rattle.externals_reader.proofs.CallLaws.{call-start}
@@ -95,7 +98,7 @@ module _ (tables area : List ℕ) (t : AnchorsCacheTransaction) (routes : List �
   all = allRead tables area t routes r mode (length out)
 
   -- nothing is done, a refusal, or what the ranges' turns came to
-  pub answered : (P : ReadAllResult → Type 0) → (askedOfRead tables area t routes r ≡ 0 → P (unchanged 0 r t out)) → ((askedOfRead tables area t routes r ≡ 0 → ⊥) → P (unchanged (askedOfRead tables area t routes r) r t out))
+  pub answered : (P : ReadAllResult → Type 0) → (askedOfRead tables area t routes r ≡ 0 → r .«all_ranges_fully_read» ≡ true → P (unchanged 0 r t out)) → ((askedOfRead tables area t routes r ≡ 0 → ⊥) → P (unchanged (askedOfRead tables area t routes r) r t out))
       → (askedOfRead tables area t routes r ≡ 0 → r .«all_ranges_fully_read» ≡ false → P (allResult tables area t r all out)) → P (readAllCall tables area t routes r mode out)
   unfolding readAllCall
   answered P idle refused done = go (eqb n 0) refl (r .«all_ranges_fully_read») refl
@@ -104,7 +107,7 @@ module _ (tables area : List ℕ) (t : AnchorsCacheTransaction) (routes : List �
       n = askedOfRead tables area t routes r
 
       go : (b : Bool) → eqb n 0 ≡ b → (c : Bool) → r .«all_ranges_fully_read» ≡ c → P (pick b (pick c (unchanged 0 r t out) (allResult tables area t r all out)) (unchanged n r t out))
-      go true e true m = idle (eqb-true n 0 e)
+      go true e true m = idle (eqb-true n 0 e) m
       go true e false m = done (eqb-true n 0 e) m
       go false e c m = refused (eqb-false n 0 e)
 
@@ -122,15 +125,42 @@ module _ (tables area : List ℕ) (t : AnchorsCacheTransaction) (routes : List �
   unfolding stateNumber
   a-read-of-all-keeps-question-5-of-its-reader h five =
       let P : ReadAllResult → Type 0 = λ d. stateNumber (d .answer .reader .«reader_state») ≡ 0 in
-      answered P (λ z. five) (λ n. five)
+      answered P (λ z m. five) (λ n. five)
       (λ z m. let s = all-sound h five z m in pick-both P (eqb (all .value .«so_far» .number) 0) _ _ (answers-5 (record { ranges = all .value .ranges; len = all .value .len; «by_partitions» = state .«by_partitions»; «last_read_to_anchor_chain_time» = state .«last_read_to_anchor_chain_time» }) (s .few) (s .sound)) five)
+
+  -- ---- the mark
+  -- of the sixteen slots that a reader's type gives: "else the mark is set"
+  pub the-mark-is-set-where-it-was-or-every-range-is-fully-read : length (r .«reader_state» .ranges) ≡ maxRanges
+      → (let a = readAllCall tables area t routes r mode out .answer in a .number ≡ 0 → a .reader .«all_ranges_fully_read» ≡ (r .«all_ranges_fully_read» || allFullyRead (heldRanges (a .reader .«reader_state»))))
+  unfolding allRead
+  the-mark-is-set-where-it-was-or-every-range-is-fully-read sixteen = answered P (λ z m y. m ∙ sym (or-here _ _ m)) (λ n y. absurd (n y)) (λ z m. go z m (eqb (all .value .«so_far» .number) 0) refl)
+    where
+      P : ReadAllResult → Type 0
+      P d = d .answer .number ≡ 0 → d .answer .reader .«all_ranges_fully_read» ≡ (r .«all_ranges_fully_read» || allFullyRead (heldRanges (d .answer .reader .«reader_state»)))
+
+      q : RangesRead
+      q = all .value
+
+      done : ReadAllResult
+      done =
+          record {
+            answer = record { number = 0; used = q .«so_far» .used; counts = q .«so_far» .counts; reader = readerAfter r q; state = popsCall (length area) (q .«so_far» .pops) tables t .state };
+            out = sets out 0 (all .entries);
+          }
+
+      go : askedOfRead tables area t routes r ≡ 0 → r .«all_ranges_fully_read» ≡ false → (b : Bool) → eqb (q .«so_far» .number) 0 ≡ b → P (pick b done (unchanged (q .«so_far» .number) r t out))
+      go z m true e y =
+          let s = begun z m in
+          let marks = the-mark-says-whether-every-range-is-fully-read (windowRead tables area t routes fixed) fixed state (omega (arith, s .slots, sixteen)) (omega (arith, s .limit, sixteen)) (eqb-true _ 0 e) in
+          marks ∙ ap (λ (b : Bool). b || allFullyRead (take (q .len) (q .ranges))) (sym m)
+      go z m false e y = absurd (eqb-false (q .«so_far» .number) 0 e y)
 
   -- ---- the sums
   pub each-sum-of-a-read-of-all-is-at-most-1024-for-each-of-16-ranges : AtMost maxSum (readAllCall tables area t routes r mode out .answer .counts)
   unfolding allRead
   each-sum-of-a-read-of-all-is-at-most-1024-for-each-of-16-ranges =
       let P : ReadAllResult → Type 0 = λ d. AtMost maxSum (d .answer .counts) in
-      answered P (λ z. none) (λ n. none)
+      answered P (λ z m. none) (λ n. none)
       (λ z m. pick-both P (eqb (all .value .«so_far» .number) 0) _ _ (sums z m) none)
     where
       none : {k : ℕ} → AtMost k noCounts
@@ -172,7 +202,7 @@ pub inside-a-read-of-all-only-10-to-14-refuse : (tables area : List ℕ) (t : An
     → DoneOr10To14 (readAllCall tables area t (h .routes) (h .reader) (h .mode) (h .out) .answer .number)
 inside-a-read-of-all-only-10-to-14-refuse tables area t h z =
     let P : ReadAllResult → Type 0 = λ d. DoneOr10To14 (d .answer .number) in
-    answered tables area t (h .routes) (h .reader) (h .mode) (h .out) P (λ y. inl refl) (λ n. absurd (n z))
+    answered tables area t (h .routes) (h .reader) (h .mode) (h .out) P (λ y m. inl refl) (λ n. absurd (n z))
     (λ y m. pick-both P (eqb (whole .value .«so_far» .number) 0) _ _ (inl refl) number)
   where
     whole : Outcome RangesRead

@@ -74,7 +74,7 @@ read-asked : (tables area : List ℕ) (t : AnchorsCacheTransaction) (routes : Li
 read-asked tables area t routes r mode out =
     let P : ReadAllResult → Type 0 = λ d. d .answer .number ≡ 0 → Five r in
     let five = asked-five tables area t routes r in
-    answered tables area t routes r mode out P (λ z e. five z) (λ n z. absurd (n z)) (λ z m e. five z)
+    answered tables area t routes r mode out P (λ z m e. five z) (λ n z. absurd (n z)) (λ z m e. five z)
 
 asked : (c : Change) (r : ExternalsReader) → called c r .number ≡ 0 → Five r
 unfolding newCall resetCall dropLastCall setLimitsCall finalizeCall retainCall setFromCall incrementCall dropCall setSkipCall setProcessedCall takenCall

@@ -6,3 +6,4 @@ pub mod Kept
 pub mod Sums
 pub mod Offsets
 pub mod Examples
+pub mod Marks
