@@ -1,4 +1,4 @@
--- What the claim says of an abandoned attempt and of a committed one.
+-- What the claim says of an abandoned attempt and of a committed one, and of a book that question 5 refuses.
 use Prim.Native.Nat.{ℕ, zero, suc, _≤_}
 use mathlib.Core.Path.{_≡_, refl, sym, ap, _∙_}
 use mathlib.Core.Bool.{Bool, true, false, _||_}
@@ -6,11 +6,18 @@ use mathlib.Core.List.{List, [], _∷_, _++_, map}
 use lib.ListN.{length}
 use Rattle.rows.specs.Rows.{pick}
 use Rattle.anchors_cache.specs.declared.AnchorsCacheTransaction.{AnchorsCacheTransaction}
+use Rattle.rows.proofs.Laws.{no-here, no-later}
 use Rattle.cache_rules.specs.Rules.{Cache, areaBytes}
 use Rattle.anchors_cache.specs.Tables.{view}
 use Rattle.anchors_cache.specs.Calls.{onZero, openCall, closeCall}
-use Rattle.cache_laws.specs.Book.{Book, begin, Change, apply, applied, Effect, changes, commits, rolls-back, nothing, onBook, Call, enter, entered, performed, isCommit, committedIn, keptBy, sinceRollback}
+use Rattle.cache_laws.specs.Book.{Book, begin, holds, askedOfCaches, Change, apply, applied, Effect, changes, commits, rolls-back, nothing, onBook, Call, enter, entered, performed, isCommit, committedIn, keptBy, sinceRollback}
 use Rattle.cache_laws.proofs.Claim.{Follows, the-book}
+
+-- ---- question 5 of what the book holds
+pub a-book-whose-present-or-opening-cache-question-5-refuses-gives-5 : (present opening : Cache) (rest : ℕ)
+    → (holds present ≡ false → askedOfCaches present opening rest ≡ 5) × (holds opening ≡ false → askedOfCaches present opening rest ≡ 5)
+a-book-whose-present-or-opening-cache-question-5-refuses-gives-5 present opening rest =
+    (λ e. ap (λ (b : Bool). pick b rest 5) (sym (no-here (holds present) (holds opening) e)), λ e. ap (λ (b : Bool). pick b rest 5) (sym (no-later (holds present) (holds opening) e)))
 
 -- ---- the opening cache stays
 opening-now : (n : ℕ) (e : Effect) (b : Book) → onZero n (onBook e b) b .opening ≡ b .opening

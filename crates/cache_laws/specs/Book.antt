@@ -33,9 +33,13 @@ finish b = pick (b .mark) (b .present) (b .opening)
 unfoldable pub holds : Cache → Bool
 holds v = soundCache (map rowOf (v .anchors)) (length (v .history)) (v .pending)
 
+-- of the caches that a book holds
+abbrev pub askedOfCaches : Cache → Cache → ℕ → ℕ
+askedOfCaches present opening rest = ask 5 (holds present && holds opening) rest
+
 -- questions 1 and 5; n is the length of the message area that the call is handed
 unfoldable pub bookRefusal : ℕ → Book → ℕ → ℕ
-bookRefusal n b rest = ask 1 (leb areaBytes n) (ask 5 (holds (b .present) && holds (b .opening)) rest)
+bookRefusal n b rest = ask 1 (leb areaBytes n) (askedOfCaches (b .present) (b .opening) rest)
 
 -- questions 6, 7 and 8 of an add of k bytes of messages
 unfoldable pub bookAdd : ℕ → ℕ → ℕ → Cache → ℕ → ℕ

@@ -1,7 +1,7 @@
 -- One range's read as the book counts it: its number from the questions on what it is handed and on the book's two
 -- caches, its pops by the six steps on the present one.
 use Prim.Native.Nat.{ℕ}
-use mathlib.Core.Bool.{true, _&&_}
+use mathlib.Core.Bool.{true}
 use mathlib.Core.List.{List, [], _∷_}
 use lib.ListN.{length}
 use Rattle.ext_types.specs.declared.Seconds.{Seconds}
@@ -9,8 +9,8 @@ use Rattle.shard_ident.specs.declared.ShardIdent.{ShardIdent}
 use Rattle.messages_buffer.specs.Fullness.{firstNo}
 use Rattle.anchors_cache.specs.declared.AnchorsCacheTransaction.{AnchorsCacheTransaction}
 use Rattle.anchors_cache.specs.declared.Done.{Done}
-use Rattle.cache_rules.specs.Rules.{Cache, ask}
-use Rattle.cache_laws.specs.Book.{holds}
+use Rattle.cache_rules.specs.Rules.{Cache}
+use Rattle.cache_laws.specs.Book.{askedOfCaches}
 use Rattle.range_rules.specs.declared.RangeRead.{RangeRead}
 use Rattle.range_rules.specs.declared.ExternalsRangeReaderState.{ExternalsRangeReaderState}
 use Rattle.range_rules.specs.declared.ProcessedTo.{ProcessedTo}
@@ -37,7 +37,7 @@ bookSteps h v = sixSteps (contextOf (h .shard) (h .limits) (h .processed) (h .ti
 unfoldable pub bookReadNumber : Handed → List ℕ → Cache → Cache → ℕ
 bookReadNumber h area present opening =
     firstNo
-    (rangeQuestions (length area) (h .shard) (h .routes) (h .limits) (ask 5 (holds present && holds opening) 0) (h .range) true
+    (rangeQuestions (length area) (h .shard) (h .routes) (h .limits) (askedOfCaches present opening 0) (h .range) true
     ∷ bookSteps h present .value .walk .number
     ∷ [])
 

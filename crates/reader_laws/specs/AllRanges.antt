@@ -1,16 +1,16 @@
 -- The read of all ranges as the book counts it: its number from the questions on what it is handed and on the book's
 -- two caches, its pops by the rules on the present one.
 use Prim.Native.Nat.{ℕ}
-use mathlib.Core.Bool.{true, _&&_}
+use mathlib.Core.Bool.{true}
 use mathlib.Core.List.{List, [], _∷_}
 use lib.ListN.{length}
 use Rattle.rows.specs.Rows.{pick}
 use Rattle.messages_buffer.specs.Fullness.{partitionsNumber, limitedNumber, firstNo}
 use Rattle.anchors_cache.specs.declared.AnchorsCacheTransaction.{AnchorsCacheTransaction}
 use Rattle.anchors_cache.specs.declared.Done.{Done}
-use Rattle.cache_rules.specs.Rules.{Cache, lastOf, ask}
+use Rattle.cache_rules.specs.Rules.{Cache, lastOf}
 use Rattle.anchors_cache.specs.Calls.{infoFound, closedTransaction}
-use Rattle.cache_laws.specs.Book.{holds, popTimes}
+use Rattle.cache_laws.specs.Book.{askedOfCaches, popTimes}
 use Rattle.range_rules.specs.declared.RangeRead.{RangeRead}
 use Rattle.range_rules.specs.declared.ExternalsRangeReaderState.{ExternalsRangeReaderState}
 use Rattle.range_rules.specs.declared.ReadNextExternalsMode.{ReadNextExternalsMode}
@@ -56,7 +56,7 @@ bookAllRead h v = rangesRead (bookRange (h .routes) (bookFixed h v) v) (bookFixe
 
 -- questions 1, 2, 3, 4, 5 and 9
 unfoldable pub bookAsked : HandedAll → List ℕ → Cache → Cache → ℕ
-bookAsked h area present opening = allQuestions (length area) (h .routes) (h .reader) (ask 5 (holds present && holds opening) 0) true
+bookAsked h area present opening = allQuestions (length area) (h .routes) (h .reader) (askedOfCaches present opening 0) true
 
 -- Document 01: "Nothing is done once "all ranges read" is set." Else the number that the ranges give.
 unfoldable pub bookAllNumber : HandedAll → List ℕ → Cache → Cache → ℕ

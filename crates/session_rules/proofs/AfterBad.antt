@@ -1,4 +1,4 @@
--- A refused record says `bad`, its number, the refusal, and stops the session; nothing follows, no `end` pick-both.
+-- A refused record says `bad`, its number, the refusal, and stops the session; nothing follows, no `end` either.
 use Prim.Native.Nat.{ℕ, _+_, _<_}
 use mathlib.Core.Path.{_≡_, refl, sym, _∙_}
 use mathlib.Core.Bool.{Bool, true, false, _||_}
