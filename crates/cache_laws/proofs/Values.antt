@@ -1,6 +1,6 @@
 -- What the calls that answer an enum or a flag say of the cache that the window stands for: a refused one nothing.
 use Prim.Native.Nat.{ℕ, zero, suc, _+_, _*_}
-use mathlib.Core.Path.{_≡_, refl, sym, ap, _∙_}
+use mathlib.Core.Path.{_≡_, refl, ap, _∙_}
 use mathlib.Core.List.{List, [], _∷_, map}
 use mathlib.Core.Option.{Option, none, some}
 use native.Mathlib.Omega.{arith}
@@ -10,7 +10,7 @@ use mathlib.Core.Bool.{false}
 use Rattle.ext_types.specs.declared.ExternalKey.{ExternalKey}
 use Rattle.anchors_cache.proofs.Laws.{rows-of-messages}
 use Rattle.anchors_cache.specs.declared.AnchorsCacheTransaction.{AnchorsCacheTransaction}
-use Rattle.cache_rules.specs.Rules.{Info, Anchor, Cache, Row, frontOf, lastOf, infoAtCt, total, trim, rowOf, pendingUpTo}
+use Rattle.cache_rules.specs.Rules.{Info, Cache, Row, frontOf, lastOf, infoAtCt, total, trim, rowOf, pendingUpTo}
 use Rattle.anchors_cache.specs.Tables.{withMessages, anchorsOf, historyOf, view}
 use Rattle.anchors_cache.specs.Windows.{trimmedCache}
 use Rattle.anchors_cache.specs.Calls.{onZero, refusal, refusalSeen, anchorFound, anchorAuthor, infoFound, infoAuthor, idFound, shownInfo, shownAnchor, popCall, popAnswer, trimCall, trimAnswer, infoAnswer, lastInfoCall, infoAtCtCall, idAnswer, lastIdCall, getCall, getAnswer, flagAnswer, pendingCall, pendingInRangeCall}

@@ -32,8 +32,7 @@ use Rattle.reader_rules.specs.declared.RangesRead.{RangesRead}
 use Rattle.reader_rules.specs.declared.SoFar.{SoFar}
 use Rattle.externals_reader.specs.declared.TurnDone.{TurnDone}
 use Rattle.reader_rules.specs.State.{noRange, maxRanges}
-use Rattle.reader_rules.specs.Each.{each}
-use Rattle.reader_rules.specs.Rules.{nextRange, isSkipped, modeFor, settled, sums, countsAdded, Told, numbered, notAllRead, added, readOf, afterTurn, OneRange, readTurn, turn, isOver, turns, withNextRange, rangesRead, wantsNext}
+use Rattle.reader_rules.specs.Rules.{nextRange, isSkipped, modeFor, settled, countsAdded, Told, numbered, notAllRead, added, readOf, afterTurn, OneRange, readTurn, turn, isOver, turns, withNextRange, rangesRead, wantsNext}
 use Rattle.externals_reader.specs.Calls.{told, windowRead}
 use Rattle.externals_reader.specs.Locals.{turnDone}
 use Rattle.externals_reader.specs.Ready.{After, TurnRoom, Start, TurnReady, RangeWrote, TurnWrote}

@@ -1,6 +1,6 @@
 -- Demand 3, whole: one claim about every list of calls between an open and a close, and what it says of an abandoned
 -- attempt and of a committed one.
-use Prim.Native.Nat.{ℕ, zero, suc, _≤_}
+use Prim.Native.Nat.{ℕ, _≤_}
 use mathlib.Core.Path.{_≡_, refl, ap}
 use mathlib.Core.Bool.{true, false}
 use mathlib.Core.List.{List, [], _∷_, map}

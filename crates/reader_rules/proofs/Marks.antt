@@ -10,7 +10,7 @@ use lib.ListN.{length, getD, set, take, length-set}
 use lib.Seq.{take-suc, take-suc-set}
 use borrow.Author.Tests.{eqb-true, eqb-false, not-true}
 use Rattle.rows.specs.Rows.{pick}
-use Rattle.rows.proofs.Laws.{and-true, no-here, no-later, yes-later, pick-both, never}
+use Rattle.rows.proofs.Laws.{and-true, no-later, yes-later, pick-both, never}
 use Rattle.messages_buffer.specs.Fullness.{every}
 use Rattle.range_rules.specs.declared.ExternalsRangeReaderState.{ExternalsRangeReaderState}
 use Rattle.range_rules.specs.Rules.{Outcome, silent, followed}
@@ -21,7 +21,7 @@ use Rattle.reader_rules.specs.declared.Imported.the-variants as imported
 use Rattle.reader_rules.specs.declared.RangesRead.{RangesRead}
 use Rattle.reader_rules.specs.State.{noRange, openRangesLimit}
 use Rattle.reader_rules.specs.Offsets.{allFullyRead}
-use Rattle.reader_rules.specs.Rules.{OneRange, Told, isOwn, isSkipped, modeFor, movedToEnd, settled, numbered, notAllRead, added, readOf, afterTurn, nextRange, wantsNext, turn, isOver, turns, withNextRange, rangesRead, atEntry}
+use Rattle.reader_rules.specs.Rules.{OneRange, Told, isOwn, isSkipped, modeFor, movedToEnd, settled, numbered, notAllRead, added, readOf, afterTurn, nextRange, wantsNext, turn, turns, withNextRange, rangesRead, atEntry}
 use Rattle.reader_rules.proofs.Kept.{wanted}
 
 -- ---- the first ranges, and one more

@@ -16,7 +16,7 @@ use Rattle.rows.proofs.Laws.{num-in, part-part, pick-no}
 use Rattle.messages_buffer.specs.Fullness.{firstNo}
 use Rattle.anchors_cache.specs.declared.AnchorsCacheTransaction.{AnchorsCacheTransaction}
 use Rattle.cache_rules.specs.Rules.{rightSize, maxAnchorMessages, areaBytes}
-use Rattle.anchors_cache.specs.Calls.{placesIn, valid, refusal, onZero, answer, addNumber, addCall}
+use Rattle.anchors_cache.specs.Calls.{placesIn, valid, refusal, answer, addNumber, addCall}
 use Rattle.records.specs.Records.{inPlace, asStated, recordNumber, longestRecord}
 use Rattle.session_rules.specs.declared.Session.{Session}
 use Rattle.session_rules.specs.Said.{recordCounted, nothingSaid, badSaid, malformedSaid, anchorNumber, anchorTaken, tablesAfter, areaAfter, anchorSaid, plainSaid, plainTables, plainArea, plainRoutes, isTaken, longNumber, longSaid}
