@@ -40,6 +40,7 @@ typedef struct { uint32_t s; } ext_seconds;
 /* The place after a message that was read. */
 typedef struct { uint32_t anchor_id; uint64_t msgs_offset; } ext_key;
 
+/* the lowest set bit of the prefix ends it; workchain -1 has the prefix 0x8000000000000000 alone (else 2) */
 typedef struct { int32_t workchain; uint64_t prefix; } ext_shard;
 
 /* ---- the cache: where its anchors and the history stand in the tables, in rows, and the first message in the area */

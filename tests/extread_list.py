@@ -4,10 +4,10 @@
 """
 import struct
 
-from gen_sessions import A, CLOSE, COMMIT, FULL, NONE, OPEN, POP, READ, REFILL, ROLLBACK
+from gen_sessions import A, CLOSE, COMMIT, FULL, HALF, NONE, OPEN, POP, READ, REFILL, ROLLBACK
 from gen_sessions import acc, anchor, do, flat, named, rec, route, session, settings, shard
 
-RANDOM = {'plain': 120, 'malformed': 80, 'caps': 6, 'mixed': 40}    # how many of each kind
+RANDOM = {'plain': 123, 'malformed': 83, 'caps': 6, 'mixed': 40}    # how many of each kind
 OURS, OTHER, OURS_B = (0, A), (-1, A), (0, acc(0, 1))
 HEAD = [shard(0, FULL), settings(1000, 60, 5, 4, 0, [9])]
 ONE = [anchor(1, 1000, 1, [OURS])]
@@ -20,6 +20,18 @@ def at(next_ct, timeout, limits=(9,)):
 
 def raw_settings(payload):
     return [HEAD[0], rec(3, payload)]
+
+
+def masterchain():
+    """Ticket 2 of document 02: workchain -1 is one shard. Each prefix of it, and the lower half of workchains that share its byte,
+    its sign or its bits: of those a message in the half is ours where the workchain fits a byte."""
+    some = {'whole_is_well': FULL, 'half': HALF, 'upper_half': FULL | HALF, 'quarter': HALF >> 1, 'depth_60': FULL | 8, 'prefix_0': 0, 'prefix_4': 4}
+    res = {'2_masterchain_' + n: [shard(-1, prefix), HEAD[1], anchor(1, 1000, 1, [OTHER, OURS])] + ATTEMPT for n, prefix in some.items()}
+    for n, workchain in {'255': 255, 'minus_257': -257, 'minus_2': -2, 'greatest': 2**31 - 1, 'least': -2**31}.items():
+        byte, = struct.unpack_from('<b', struct.pack('<i', workchain))
+        two = [anchor(1, 1000, 2, [(byte, A), (byte, acc(FULL))])]
+        res['2_half_of_workchain_%s_is_well' % n] = [shard(workchain, HALF), HEAD[1]] + two + ATTEMPT
+    return res
 
 
 def refusals():
@@ -120,8 +132,8 @@ def surprises():
         'abandoned': HEAD + two + [do(OPEN), do(READ), do(POP), do(CLOSE), do(OPEN), do(READ), do(COMMIT), do(CLOSE)],
         'commit_does_not_end': HEAD + two + [do(OPEN), do(COMMIT), do(READ), do(POP), do(COMMIT), do(POP), do(CLOSE)],
         'last_history_entry_stays': HEAD + [anchor(1, 5, 0, [OTHER]), anchor(2, 9, 1, [OURS]), do(POP), do(POP)],
-        'prefix_4_first_byte_7f': [shard(0, 0x4000000000000000), HEAD[1], anchor(1, 1000, 1, [(0, bytes([0x7f]) + bytes(31))])] + ATTEMPT,
-        'prefix_4_first_byte_80': [shard(0, 0x4000000000000000), HEAD[1], anchor(1, 1000, 1, [(0, bytes([0x80]) + bytes(31))])] + ATTEMPT,
+        'prefix_4_first_byte_7f': [shard(0, HALF), HEAD[1], anchor(1, 1000, 1, [(0, bytes([0x7f]) + bytes(31))])] + ATTEMPT,
+        'prefix_4_first_byte_80': [shard(0, HALF), HEAD[1], anchor(1, 1000, 1, [(0, bytes([0x80]) + bytes(31))])] + ATTEMPT,
         'shard_of_the_masterchain': [shard(-1, FULL), HEAD[1], anchor(1, 1000, 1, [OTHER, OURS])] + ATTEMPT,
         'workchain_beyond_a_byte': [shard(-129, FULL), HEAD[1], anchor(1, 1000, 1, [(127, A)])] + ATTEMPT,
         'routes_after_anchors': at(1000, 60, [9, 9, 9]) + [anchor(1, 1000, 2, [OURS, OURS_B]), route(0, A, 2), do(OPEN), do(READ), route(-1, A, 1), do(READ), do(CLOSE)],
@@ -134,7 +146,7 @@ def surprises():
 def sessions():
     """Names and bytes, in the list's order."""
     own = {'extread ' + n: recs for n, recs in named().items() if not n.startswith('x_')}
-    for group in (refusals(), surprises()):
+    for group in (refusals(), masterchain(), surprises()):
         own.update({'extread ' + n: recs for n, recs in group.items()})
     some = [('extread %s %d' % (kind, i), session(i, kind)) for kind, n in RANDOM.items() for i in range(1, n + 1)]
     return [(n, flat(recs)) for n, recs in own.items()] + some

@@ -14,10 +14,10 @@ import sys
 sys.dont_write_bytecode = True
 from differ import TOP, by_oracle, framed, gen_sessions as g  # noqa: E402
 import extread_list  # noqa: E402
-from gen_sessions import A, CLOSE, COMMIT, FULL, NONE, OPEN, POP, READ, REFILL, ROLLBACK  # noqa: E402
+from gen_sessions import A, CLOSE, COMMIT, FULL, HALF, NONE, OPEN, POP, READ, REFILL, ROLLBACK  # noqa: E402
 from gen_sessions import acc, anchor, do, one, places, put_partition, put_range, rec, route, settings, shard  # noqa: E402
 
-RANDOM = {'range': 60, 'beyond': 60, 'reader': 100, 'mixed': 20, 'infos': 20}    # how many of each kind
+RANDOM = {'range': 60, 'beyond': 60, 'reader': 102, 'mixed': 20, 'infos': 20}    # how many of each kind
 TOP64 = 2**64 - 1
 OURS, OTHER = (0, A), (-1, A)
 B = acc(0, 1)
@@ -111,6 +111,7 @@ def refusals():
         '2_prefix_0': [shard(0, 0)],
         '2_depth_61': [shard(0, 4)],
         '2_depth_60_is_well': [shard(0, 8), HEAD[1]],
+        '2_masterchain_half': reads(anchor(2, 1000, 1, [OTHER, OURS]), at(), head=[shard(-1, HALF), HEAD[1]]),
         '3_route_twice': HEAD + [route(0, A, 1), route(0, A, 2)],
         '3_partition_8': HEAD + [route(0, A, 8)],
         '3_257_routes': HEAD + [route(0, acc(i), i % 8) for i in range(257)],

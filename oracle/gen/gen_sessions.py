@@ -57,6 +57,7 @@ def acc(first, tail=0):
 
 
 FULL = 0x8000000000000000
+HALF = 0x4000000000000000
 A = acc(0)
 
 
@@ -114,6 +115,9 @@ def named():
         'ours_0_over_cap': head + [settings(1000, 60, 5, 4, 0, [2]), anchor(1, 1000, 1, [m] * 512),
                                    anchor(2, 1000, 1, [m] * 512), anchor(3, 1000, 0, [m]),
                                    anchor(4, 1000, 1, [m])],
+        # the masterchain is one shard: refused, while the Rust reads on (oracle --split-masterchain)
+        'masterchain_half_prefix': [shard(-1, HALF), settings(1000, 60, 5, 4, 0, [2]),
+                                    anchor(1, 1000, 1, [(-1, A), (-1, acc(FULL))]), do(OPEN), do(READ), do(CLOSE)],
         # own range fully read with history: position from history, also past what was read
         'from_history': head + [settings(1000, 60, 5, 4, 0, [2]), anchor(1, 1000, 1, [m]),
                                 anchor(7, 1000, 0, [m, m, m]), do(OPEN), do(READ), do(CLOSE)],
@@ -150,8 +154,18 @@ def rand_shard(r):
     wc = r.choice([0] * 9 + [-1] * 4 + [5, 5, 127, -128, 256, -2**31])
     depth = r.choice([0, 0, 1, 1, 2, 3, 8, 59, 60])
     top = r.getrandbits(depth) if depth else 0
-    prefix = ((top << 1) | 1) << (63 - depth)
-    return wc, depth, top, prefix
+    return wc, depth, top
+
+
+def unsplit(r, wc, depth, top):
+    """The masterchain is one shard: a part of it mostly becomes the whole, or the same part of workchain -2. With the prefix."""
+    if wc == -1 and depth:
+        x = r.random()
+        if x < 0.48:
+            wc = -2
+        elif x < 0.96:
+            depth, top = 0, 0
+    return wc, depth, top, ((top << 1) | 1) << (63 - depth)
 
 
 def rand_accounts(r, depth, top):
@@ -177,7 +191,7 @@ def other_wc(r, wc):
 
 
 def plain(r):
-    shard_wc, depth, top, prefix = rand_shard(r)
+    shard_wc, depth, top, prefix = unsplit(r, *rand_shard(r))
     # a shard's workchain outside 8 bits: messages with its low byte are not ours
     wc = struct.unpack('<b', struct.pack('<i', shard_wc)[:1])[0]
     accounts = rand_accounts(r, depth, top)
@@ -296,7 +310,7 @@ def plain(r):
 
 def beyond(r):
     """Sessions for `oracle -x`: several ranges, saved ends, refusals 10 to 16, the offset calls."""
-    wc, prefix = 0, r.choice([FULL, FULL, FULL >> 1, 0x4000000000000000])
+    wc, prefix = 0, r.choice([FULL, FULL, FULL >> 1, HALF])
     tag = (prefix & -prefix).bit_length()
     inside = [acc(((prefix >> tag) << tag) | r.getrandbits(tag - 1), i) for i in range(3)]
     accounts = inside * 3 + [acc(r.getrandbits(64), 7)]
@@ -463,8 +477,8 @@ def one(seqno, to_previous):
 def one_range(r):
     """Sessions for `oracle -x` of one range's read and the cache's calls alone (0005 without 3 and 4; no 0112, 0113,
     0116): handed-in ranges, reader partitions and caches, both modes, edges of every offset and of the output."""
-    shard_wc, depth, top, prefix = rand_shard(r)
-    shard_wc = r.choice([0, 0, 0, -1, shard_wc])
+    shard_wc, depth, top = rand_shard(r)
+    shard_wc, depth, top, prefix = unsplit(r, r.choice([0, 0, 0, -1, shard_wc]), depth, top)
     wc = struct.unpack('<b', struct.pack('<i', shard_wc)[:1])[0]
     accounts = rand_accounts(r, depth, top)
     timeout = r.choice([0, 1, 60, 60, 0xFFFFFFFF])
@@ -638,7 +652,8 @@ def readers(r):
     """Sessions for `oracle -x` of the read of all ranges and of the reader's functions: ranges that follow one another over the
     cached messages, with or without the block's own, skip offsets about the current ones, marks, waiting settings, every small
     open-ranges limit, caches with and without history; some ranges are such that a read is refused in them."""
-    wc, prefix = r.choice([0, 0, -1]), r.choice([FULL, FULL, 0x4000000000000000])
+    wc, depth = r.choice([0, 0, -1]), r.choice([0, 0, 1])
+    wc, _, _, prefix = unsplit(r, wc, depth, 0)
     tag = (prefix & -prefix).bit_length()
     inside = [acc(((prefix >> tag) << tag) | r.getrandbits(tag - 1), i) for i in range(3)]
     outside = [(other_wc(r, wc), inside[0])]

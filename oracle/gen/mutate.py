@@ -36,6 +36,8 @@ CHANGES = [
     ('full only if all are', "return any(x[0] >=", "return all(x[0] >="),
     ('11 also when full', "and not self.full(r) and not stop:", "and not stop:"),
     ('11 not asked of the saved end', "and not self.full(r) and not stop:", "and not self.full(r):"),
+    ('a part of the masterchain taken', " or self.wc == -1 and self.prefix != 1 << 63", ""),
+    ('no workchain in parts', " or self.wc == -1 and self.prefix != 1 << 63", " or self.prefix != 1 << 63"),
     ('tag bit compared too', "return wc == self.wc and self.prefix >> (tag + 1) == word >> (tag + 1)", "return wc == self.wc and self.prefix >> tag == word >> tag"),
     ('workchain not compared', "return wc == self.wc and", "return"),
     ('workchain unsigned', "wc = struct.unpack('<b', m[:1])[0]", "wc = m[0]"),

@@ -16,6 +16,9 @@ pub type Number = u8;
 
 /// Question 1: the least number of bytes in the message area.
 pub const AREA: usize = 33_792;
+/// Question 2: the workchain that is never split, and the prefix of a whole workchain.
+pub const MASTERCHAIN: i32 = -1;
+pub const PREFIX_FULL: u64 = 0x8000_0000_0000_0000;
 pub const MAX_LIMIT: u16 = 1024;
 pub const MAX_OPEN_RANGES: u8 = 16;
 pub const MAX_ROUTES: usize = 256;

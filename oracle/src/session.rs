@@ -13,7 +13,8 @@ use crate::collator::anchors_cache::{AnchorsCache, AnchorsCacheTransaction};
 use crate::collator::messages_reader::externals_reader::hook::{Entry, Kept, Settings};
 use crate::internal_queue::types::router::PartitionRouter;
 use crate::questions::{
-    AREA, MAX_LIMIT, MAX_OPEN_RANGES, MAX_ROUTES, Number, ask_add, mempool_anchor,
+    AREA, MASTERCHAIN, MAX_LIMIT, MAX_OPEN_RANGES, MAX_ROUTES, Number, PREFIX_FULL, ask_add,
+    mempool_anchor,
 };
 use crate::records::{Anchor, Input, Record, parse};
 use crate::refusals::{note_panics, try_read};
@@ -41,6 +42,8 @@ pub struct Session<'a> {
 pub struct Opts {
     pub verbose: bool,
     pub beyond: bool,
+    /// question 2 as document 01 alone has it: a part of the masterchain is taken
+    pub split_masterchain: bool,
 }
 
 pub enum Stop {
@@ -270,9 +273,15 @@ impl Session<'_> {
     }
 }
 
-/// Question 2 of the first record.
-fn shard(input: &mut Input<'_>) -> Result<ShardIdent, Number> {
+/// Question 2 of the first record. Ticket 2 of document 02, that the masterchain is one shard, is asked here: the
+/// original does not look, and runs on a part of it as on any shard.
+fn shard(input: &mut Input<'_>, opts: Opts) -> Result<ShardIdent, Number> {
     match input.first()? {
+        Record::Shard { workchain: MASTERCHAIN, prefix }
+            if prefix != PREFIX_FULL && !opts.split_masterchain =>
+        {
+            Err(2)
+        }
         Record::Shard { workchain, prefix } => ShardIdent::new(workchain, prefix).ok_or(2),
         _ => Err(17),
     }
@@ -292,7 +301,8 @@ fn settings(input: &mut Input<'_>) -> Result<Settings, Number> {
 pub fn session(bytes: &[u8], opts: Opts) -> String {
     note_panics();
     let mut input = Input::new(bytes);
-    let head = shard(&mut input).and_then(|sh| settings(&mut input).map(|se| Kept::new(sh, &se)));
+    let head =
+        shard(&mut input, opts).and_then(|sh| settings(&mut input).map(|se| Kept::new(sh, &se)));
     let reader = match head {
         Ok(reader) => reader,
         Err(no) => return format!("bad {} {no}\n", input.number),
@@ -315,13 +325,15 @@ pub fn session(bytes: &[u8], opts: Opts) -> String {
 
 /// Standard input: one session. With file names: each file's session, its output
 /// written beside it with `.out` added. `-v` tells states on standard error;
-/// `-x` allows the records beyond `extread` (README.md).
+/// `-x` allows the records beyond `extread`, `--split-masterchain` takes a part of the
+/// masterchain (README.md).
 pub fn main(mut args: &[String]) {
     let mut opts = Opts::default();
     while let Some((first, rest)) = args.split_first() {
         match first.as_str() {
             "-v" => opts.verbose = true,
             "-x" => opts.beyond = true,
+            "--split-masterchain" => opts.split_masterchain = true,
             _ => break,
         }
         args = rest;

@@ -114,6 +114,20 @@ fn print_shards() {
     print_case(b"area_short_prefix_0_routes_twice", c);
 }
 
+// The masterchain is one shard; workchain 255 has its byte alone.
+fn print_masterchain() {
+    let mut c = state::sound();
+    c.workchain = shard_ident::MASTERCHAIN;
+    print_case(b"masterchain_whole", c);
+    c.prefix = 4611686018427387904;
+    print_case(b"masterchain_half", c);
+    let mut d = c;
+    d.area = 33791;
+    print_case(b"area_short_masterchain_half", d);
+    c.workchain = 255;
+    print_case(b"workchain_255_half", c);
+}
+
 // A named partition: the seventh, and above.
 fn print_partitions() {
     let mut c = state::sound();
@@ -189,6 +203,7 @@ fn main() {
     print_counts();
     print_settings();
     print_shards();
+    print_masterchain();
     print_partitions();
     print_lent();
     print_routes();

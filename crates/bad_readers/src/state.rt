@@ -33,6 +33,7 @@ pub struct Case {
     pub no_limits: bool,
     pub most: u8,
     pub waiting: bool,
+    pub workchain: i32,
     pub prefix: u64,
     pub block_seqno: u32,
     pub par_id: u8,
@@ -64,7 +65,8 @@ pub fn sound() -> Case {
         no_limits: false,
         most: 4,
         waiting: false,
-        prefix: 9223372036854775808,
+        workchain: 0,
+        prefix: shard_ident::PREFIX_FULL,
         block_seqno: 5,
         par_id: 0,
         seqno: 1,
@@ -186,7 +188,7 @@ pub fn reader(c: Case) -> ExternalsReader {
         last_read_to_anchor_chain_time: last,
     };
     let shard = ShardIdent {
-        workchain: 0,
+        workchain: c.workchain,
         prefix: c.prefix,
     };
     let params = MsgsExecutionParams {

@@ -7,3 +7,4 @@ pub mod AllPassed
 pub mod AllKept
 pub mod ReaderKept
 pub mod OneReader
+pub mod Masterchain

@@ -17,7 +17,7 @@ use Rattle.rows.specs.Rows.{pick, part}
 use Rattle.rows.proofs.Laws.{part-cons, and-true, yes-later, no-later}
 use Rattle.shard_ident.specs.declared.ShardIdent.{ShardIdent}
 use Rattle.shard_ident.specs.declared.Membership.the-variants.{Refused, Ours, NotOurs}
-use Rattle.shard_ident.specs.Shard.{bit, lowestSet, tag, isShard, shardNumber, sameBits, sameAboveTag, sameWorkchain, inShard, bigEndian, isOurs, answerOf, afterQuestion}
+use Rattle.shard_ident.specs.Shard.{bit, lowestSet, tag, splitsMasterchain, isShard, shardNumber, sameBits, sameAboveTag, sameWorkchain, inShard, bigEndian, isOurs, answerOf, afterQuestion}
 
 -- ---- bits
 -- one shift more
@@ -130,13 +130,18 @@ pub low-tag : (s : ShardIdent) → tag (s .prefix) < 3 → isShard s ≡ false
 unfolding isShard
 low-tag s h = rw (lt-leb 3 (tag (s .prefix)) h) (sym (no-later (not (eqb (s .prefix) 0)) false refl))
 
-pub high-tag : (s : ShardIdent) → (s .prefix ≡ 0 → ⊥) → 3 ≤ tag (s .prefix) → isShard s ≡ true
+pub split-masterchain : (s : ShardIdent) → splitsMasterchain s ≡ true → isShard s ≡ false
 unfolding isShard
-high-tag s n h = rw (ne-eqb (s .prefix) 0 n, le-leb 3 (tag (s .prefix)) h)
+split-masterchain s e =
+    sym (no-later (not (eqb (s .prefix) 0)) _ (sym (no-later (leb 3 (tag (s .prefix))) (not (splitsMasterchain s)) (ap not e))))
+
+pub high-tag : (s : ShardIdent) → (s .prefix ≡ 0 → ⊥) → 3 ≤ tag (s .prefix) → splitsMasterchain s ≡ false → isShard s ≡ true
+unfolding isShard
+high-tag s n h e = rw (ne-eqb (s .prefix) 0 n, le-leb 3 (tag (s .prefix)) h, e)
 
 pub shard-prefix : (s : ShardIdent) → isShard s ≡ true → 0 < s .prefix
 unfolding isShard
-shard-prefix s h = let n = eqb-false (s .prefix) 0 (not-true _ (and-true (not (eqb (s .prefix) 0)) (leb 3 (tag (s .prefix))) h .0)) in omega (arith, n)
+shard-prefix s h = let n = eqb-false (s .prefix) 0 (not-true _ (and-true (not (eqb (s .prefix) 0)) _ h .0)) in omega (arith, n)
 
 -- the question's number tells its answer
 number-tells : (b : Bool) → ((pick b 0 2 ≡ zero) → b ≡ true) × ((pick b 0 2 ≡ zero → ⊥) → b ≡ false)

@@ -23,9 +23,24 @@ lowestSet (suc k) i n = pick (eqb (bit i n) 1) i (lowestSet k (suc i) n)
 abbrev pub tag : ℕ → ℕ
 tag prefix = lowestSet 64 0 prefix
 
+-- the prefix of a whole workchain, 8000000000000000 in hexadecimal
+abbrev pub prefixFull : ℕ
+prefixFull = 9223372036854775808
+
+abbrev pub equalℤ : ℤ → ℤ → Bool
+equalℤ (pos a) (pos b) = eqb a b
+equalℤ (pos a) (negsuc b) = false
+equalℤ (negsuc a) (pos b) = false
+equalℤ (negsuc a) (negsuc b) = eqb a b
+
+-- a part of the masterchain, workchain -1; document 02, ticket 2: "TON never splits the masterchain."
+abbrev pub splitsMasterchain : ShardIdent → Bool
+splitsMasterchain s = equalℤ (negsuc 0) (s .workchain) && not (eqb (s .prefix) prefixFull)
+
 -- Document 01, question 2: "Is the shard prefix nonzero with its lowest set bit at bit 3 or above (bit 0 lowest)?"
+-- Document 02, ticket 2: "workchain -1 is accepted only with prefix 8000000000000000 in hexadecimal".
 unfoldable pub isShard : ShardIdent → Bool
-isShard s = not (eqb (s .prefix) 0) && leb 3 (tag (s .prefix))
+isShard s = not (eqb (s .prefix) 0) && (leb 3 (tag (s .prefix)) && not (splitsMasterchain s))
 
 abbrev pub shardNumber : ShardIdent → ℕ
 shardNumber s = pick (isShard s) 0 2
@@ -42,12 +57,6 @@ sameAboveTag prefix account = sameBits (63 - tag prefix) (tag prefix + 1) prefix
 -- a byte as the signed 8 bits of a message's workchain
 abbrev pub signedByte : ℕ → ℤ
 signedByte b = pick (ltb b 128) (pos b) (negsuc (255 - b))
-
-abbrev pub equalℤ : ℤ → ℤ → Bool
-equalℤ (pos a) (pos b) = eqb a b
-equalℤ (pos a) (negsuc b) = false
-equalℤ (negsuc a) (pos b) = false
-equalℤ (negsuc a) (negsuc b) = eqb a b
 
 unfoldable pub sameWorkchain : ℤ → ℕ → Bool
 sameWorkchain workchain byte = equalℤ (signedByte byte) workchain

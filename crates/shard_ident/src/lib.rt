@@ -3,7 +3,7 @@ ghost use mathlib.Core.Path.{_≡_};
 ghost use Prim.Native.Nat.{_<_, _≤_};
 ghost use lib.ListN.{length};
 ghost use Rattle.rows.specs.Rows.{part};
-ghost use Rattle.shard_ident.specs.Shard.{shardNumber, sameWorkchain, sameAboveTag, inShard, bigEndian, answerOf, containsAddress, containsMessage};
+ghost use Rattle.shard_ident.specs.Shard.{splitsMasterchain, shardNumber, sameWorkchain, sameAboveTag, inShard, bigEndian, answerOf, containsAddress, containsMessage};
 
 // A part of a workchain: the accounts whose first bits are the prefix's above its lowest set bit, the tag.
 #[repr(C)]
@@ -18,6 +18,21 @@ pub enum Membership {
     NotOurs,
 }
 
+// TON's masterchain, which is never split.
+pub const MASTERCHAIN: i32 = -1;
+
+// The prefix of a whole workchain, 8000000000000000 in hexadecimal.
+pub const PREFIX_FULL: u64 = 9223372036854775808;
+
+fn splits_masterchain(shard: ShardIdent) -> bool
+    ensures { λ r. ⌜ r ≡ splitsMasterchain shard ⌝ }
+{
+    if shard.workchain != MASTERCHAIN {
+        return false;
+    }
+    shard.prefix != PREFIX_FULL
+}
+
 // Question 2: 0 or 2.
 pub fn check_shard(shard: ShardIdent) -> u8
     ensures { λ r. ⌜ r ≡ shardNumber shard ⌝ }
@@ -27,6 +42,9 @@ pub fn check_shard(shard: ShardIdent) -> u8
         return 2;
     }
     if u64::trailing_zeros(prefix) < 3 {
+        return 2;
+    }
+    if splits_masterchain(shard) {
         return 2;
     }
     0

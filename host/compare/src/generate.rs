@@ -61,6 +61,7 @@ fn payload() -> Payload {
 }
 
 const NO_LIMIT: u16 = 0xFFFF;
+const MASTERCHAIN: i8 = -1;
 // The do bytes.
 const OPEN: u8 = 1;
 const POP: u8 = 2;
@@ -117,9 +118,10 @@ pub fn session(seed: u64) -> Vec<u8> {
     s.spoiled()
 }
 
-/// Depth and the bits above the tag.
-fn shard(r: &mut Rng) -> (u32, u64) {
-    let depth = r.pick(&[0, 0, 0, 1, 2, 8, 60]);
+/// Depth and the bits above the tag. The masterchain is one shard: rarely a part of it, which 2 refuses.
+fn shard(r: &mut Rng, workchain: i8) -> (u32, u64) {
+    let whole = workchain == MASTERCHAIN && !r.chance(90);
+    let depth = if whole { 0 } else { r.pick(&[0, 0, 0, 1, 2, 8, 60]) };
     (depth, if depth == 0 { 0 } else { r.next() >> (64 - depth) })
 }
 
@@ -148,10 +150,10 @@ fn limits(r: &mut Rng) -> [u16; 8] {
 
 /// The shard and the settings.
 fn begun(mut r: Rng) -> Session {
-    let (depth, top) = shard(&mut r);
+    let workchain = r.pick(&[0, 0, MASTERCHAIN, -2, 5]);
+    let (depth, top) = shard(&mut r, workchain);
     let inside = 1 + r.below(3);
     let accounts = accounts(&mut r, (depth, top), inside);
-    let workchain = r.pick(&[0, 0, 0, -1, 5]);
     let timeout: u32 = r.pick(&[0, 1, 60, 60, 60, u32::MAX]);
     let now = u64::from(timeout) * 1000 + r.pick(&[0, 100, 100, 100, 5000]);
     let block = r.pick(&[0, 1, 3, 4, 5, 5, 5, 30, u32::MAX]);

@@ -179,6 +179,8 @@ calls! {
     };
 }
 
+const HALF_OF_THE_MASTERCHAIN: ShardIdent = ShardIdent { workchain: -1, prefix: 0x4000_0000_0000_0000 };
+
 /// What makes a call refuse, alone or two together.
 const CHANGES: &[fn(&mut Lent)] = &[
     |l| l.area.truncate(AREA_BYTES - 1),
@@ -189,6 +191,7 @@ const CHANGES: &[fn(&mut Lent)] = &[
     |l| l.state.transaction.undo.history_first = usize::MAX,
     |l| l.state.transaction.active = !l.state.transaction.active,
     |l| (l.state.reader.for_shard_id.prefix, l.settings.shard.prefix) = (0, 0),
+    |l| (l.state.reader.for_shard_id, l.settings.shard) = (HALF_OF_THE_MASTERCHAIN, HALF_OF_THE_MASTERCHAIN),
     |l| l.routes = vec![0; ROUTE_BYTES - 1],
     |l| l.routes = route(3),
     |l| l.routes = route(200),

@@ -34,6 +34,7 @@ macro_rules! plain {
 plain! {
     /// The place after a message that was read.
     pub struct ExternalKey { pub anchor_id: u32, pub msgs_offset: u64, } 16
+    /// The lowest set bit of the prefix ends it; workchain -1 has the prefix 0x8000000000000000 alone (else 2).
     pub struct ShardIdent { pub workchain: i32, pub prefix: u64, } 16
     /// Where the cached anchors and the history stand in the tables, in rows, and the first message in the area.
     pub struct AnchorsCache { pub first: usize, pub len: usize, pub history_first: usize, pub history_len: usize, pub base: usize, pub pending: bool, } 48

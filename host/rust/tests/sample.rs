@@ -98,6 +98,10 @@ fn whose_and_where() {
     assert_eq!(contains_message(shard, &m), Ok(true));
     m[1] = 0x80;
     assert_eq!(contains_message(shard, &m), Ok(false));
+    let mut masterchain = ShardIdent { workchain: -1, prefix: 0x8000_0000_0000_0000 };
+    assert_eq!(contains_message(masterchain, &message(-1)), Ok(true));
+    masterchain.prefix >>= 1;
+    assert_eq!(contains_message(masterchain, &message(-1)), Err(Refused(2)));
     let mut route = m.to_vec();
     route.push(3);
     assert_eq!(get_partition(&route, &m), Ok(3));
