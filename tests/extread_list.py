@@ -23,9 +23,10 @@ def raw_settings(payload):
 
 
 def masterchain():
-    """Ticket 2 of document 02: workchain -1 is one shard. Each prefix of it, and the lower half of workchains that share its byte,
-    its sign or its bits: of those a message in the half is ours where the workchain fits a byte."""
-    some = {'whole_is_well': FULL, 'half': HALF, 'upper_half': FULL | HALF, 'quarter': HALF >> 1, 'depth_60': FULL | 8, 'prefix_0': 0, 'prefix_4': 4}
+    """Ticket 2 of document 02: workchain -1 is one shard (`shard_of_the_masterchain`). Parts of it beside `masterchain_half_prefix`, and
+    the lower half of workchains that share its byte, its sign or its bits: of those a message in the half is ours where the workchain
+    fits a byte."""
+    some = {'upper_half': FULL | HALF, 'quarter': HALF >> 1, 'depth_60': FULL | 8, 'prefix_0': 0, 'prefix_4': 4}
     res = {'2_masterchain_' + n: [shard(-1, prefix), HEAD[1], anchor(1, 1000, 1, [OTHER, OURS])] + ATTEMPT for n, prefix in some.items()}
     for n, workchain in {'255': 255, 'minus_257': -257, 'minus_2': -2, 'greatest': 2**31 - 1, 'least': -2**31}.items():
         byte, = struct.unpack_from('<b', struct.pack('<i', workchain))

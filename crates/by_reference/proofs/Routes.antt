@@ -11,10 +11,11 @@ use lib.ListN.{length, getD, take, drop, set, length-set, length-take, length-dr
 use lib.Seq.{take-length, drop-cons, getD-drop, getD-take, length-take-le, take-suc-set, take-at, drop-at, getD-at}
 use mir.Syntax.{w8}
 use mir.Val.{SFits}
-use borrow.Author.Tests.{eq-eqb, ne-eqb, eqb-true, eqb-false, ltb-true, ltb-false, lt-ltb, le-ltb, lt-leb, le-leb}
+use borrow.Author.Tests.{ltb-true, lt-ltb, le-ltb, lt-leb, le-leb}
 use Rattle.rows.specs.Rows.{pick, sameBytes, startsWith, rows}
 use Rattle.rows.proofs.Laws.{pick-yes, pick-no, never, no-later}
 use Rattle.shard_ident.specs.Shard.{signedByte, equalℤ}
+use Rattle.shard_ident.proofs.Signed.{equal-self, equal-differ, same-signed}
 use Rattle.router.proofs.Laws.{question-3-of-one-row-more, the-first-rows-of-a-table-that-passes-question-3-pass-it}
 use Rattle.router.specs.Router.{maxRoutes, addressOf, routePartition, listed, noneTwice, partitionsExist, soundRoutes, routesNumber, firstPartition, unlessRefused, getPartition, partitionOf as rowsPartition}
 use Rattle.by_reference.specs.Search.{sameRoute, firstPartitionIn, listedIn, takesOne, takesAll, recordsNumber, getPartitionIn, nothingWalked, takesRoute, withRoute, refusedWalk, walkedOn, walkedOver, walkAnswer, routeOf, routesOf, byteOf, routeRow, rowsOf}
@@ -169,16 +170,6 @@ module _ (z : ℤ) (a : List ℕ) where
       go false e = ap (λ (b : Bool). pick b (record { number = 0; value = walkedOver z a nothingWalked l .partition }) (record { number = 3; value = 0 })) e
 
 -- ---- one route
-equal-self : (a : ℤ) → equalℤ a a ≡ true
-equal-self (pos a) = eq-eqb a a refl
-equal-self (negsuc a) = eq-eqb a a refl
-
-equal-differ : (a b : ℤ) → (a ≡ b → ⊥) → equalℤ a b ≡ false
-equal-differ (pos a) (pos b) n = ne-eqb a b (λ e. n (ap pos e))
-equal-differ (pos a) (negsuc b) n = refl
-equal-differ (negsuc a) (pos b) n = refl
-equal-differ (negsuc a) (negsuc b) n = ne-eqb a b (λ e. n (ap negsuc e))
-
 pub other-workchain : (r : Route) (w : ℤ) (a : List ℕ) → (r .workchain ≡ w → ⊥) → false ≡ sameRoute r w a
 other-workchain r w a n = sym (pick-no (equalℤ (r .workchain) w) (sameBytes (r .account) a) false (equal-differ (r .workchain) w n))
 
@@ -188,20 +179,6 @@ this-workchain r w a e same =
     ∙ sym (pick-yes (equalℤ (r .workchain) w) (sameBytes (r .account) a) false (subst (λ (z : ℤ). equalℤ (r .workchain) z ≡ true) e (equal-self (r .workchain))))
 
 -- ---- rows, read as records
--- two bytes are the same exactly if they are the same signed
-same-signed : (a b : ℕ) → a < 256 → b < 256 → eqb a b ≡ equalℤ (signedByte a) (signedByte b)
-same-signed a b ha hb = go (ltb a 128) (ltb b 128) refl refl
-  where
-    high : (x : Bool) → eqb (255 - a) (255 - b) ≡ x → eqb a b ≡ x
-    high true e = eq-eqb a b (omega (arith, eqb-true (255 - a) (255 - b) e))
-    high false e = ne-eqb a b (λ q. eqb-false (255 - a) (255 - b) e (ap (λ (n : ℕ). 255 - n) q))
-
-    go : (x y : Bool) → ltb a 128 ≡ x → ltb b 128 ≡ y → eqb a b ≡ equalℤ (pick x (pos a) (negsuc (255 - a))) (pick y (pos b) (negsuc (255 - b)))
-    go true true p q = refl
-    go true false p q = ne-eqb a b (λ e. omega (arith, e, ltb-true a 128 p, ltb-false b 128 q))
-    go false true p q = ne-eqb a b (λ e. omega (arith, e, ltb-false a 128 p, ltb-true b 128 q))
-    go false false p q = high (eqb (255 - a) (255 - b)) refl
-
 -- n rows, searched as rows and as the records they hold
 rows-agree : (n : ℕ) (bytes : List ℕ) (byte : ℕ) (account : List ℕ) → ((i : ℕ) → getD bytes i 0 < 256) → byte < 256 → 34 * n ≤ length bytes
     → firstPartition (byte ∷ account) (rows 34 n bytes) ≡ firstPartitionIn (map routeOf (rows 34 n bytes)) (signedByte byte) account

@@ -1,31 +1,27 @@
 -- Document 02, ticket 2: the masterchain, workchain -1 (`negsuc 0`), is one shard. What each call answers of it, and
 -- that question 2 asks of every other workchain what document 01 asks.
-use Prim.Native.Nat.{ℕ, _-_, _^_, _≤_, _<_}
+use Prim.Native.Nat.{ℕ, _^_, _≤_, _<_}
 use mathlib.Core.Path.{_≡_, refl, sym, ap, _∙_}
 use mathlib.Core.Bool.{Bool, true, false, not, _&&_}
 use mathlib.Core.List.{List}
 use native.Mathlib.Omega.{arith}
-use lib.Dec.{eqb, leb, ltb}
-use lib.IntN.{ℤ, pos, negsuc}
+use lib.Dec.{eqb, leb}
+use lib.IntN.{negsuc}
 use lib.ListN.{length, getD}
-use borrow.Author.Tests.{eq-eqb, ne-eqb, eqb-true, eqb-false, ltb-true}
-use Rattle.rows.specs.Rows.{pick, part}
+use borrow.Author.Tests.{ne-eqb, eqb-true, eqb-false}
+use Rattle.rows.specs.Rows.{part}
 use Rattle.rows.proofs.Laws.{pick-no, no-here, yes-here, yes-later}
 use Rattle.shard_ident.specs.declared.ShardIdent.{ShardIdent}
 use Rattle.shard_ident.specs.declared.Membership.the-variants.{Refused}
 use Rattle.shard_ident.specs.Shard.{lowestSet, tag, equalℤ, splitsMasterchain, isShard, shardNumber, sameWorkchain, bigEndian, answerOf, containsAddress, containsMessage}
+use Rattle.shard_ident.proofs.Signed.{equal-differ, same-signed}
 use Rattle.shard_ident.proofs.Laws.{split-masterchain, refused, accepted, message-ours, prefix-8000000000000000-takes-the-whole-workchain}
-
--- no other workchain is -1
-not-masterchain : (z : ℤ) → (z ≡ negsuc 0 → ⊥) → equalℤ (negsuc 0) z ≡ false
-not-masterchain (pos n) h = refl
-not-masterchain (negsuc n) h = ne-eqb 0 n (λ e. h (ap negsuc (sym e)))
 
 -- question 2 of every other workchain, as document 01 has it
 pub other-workchains-are-asked-as-before : (s : ShardIdent) → (s .workchain ≡ negsuc 0 → ⊥) → isShard s ≡ (not (eqb (s .prefix) 0) && leb 3 (tag (s .prefix)))
 unfolding isShard
 other-workchains-are-asked-as-before s h =
-    let not-split = ap not (sym (no-here (equalℤ (negsuc 0) (s .workchain)) _ (not-masterchain (s .workchain) h))) in
+    let not-split = ap not (sym (no-here (equalℤ (negsuc 0) (s .workchain)) _ (equal-differ (negsuc 0) (s .workchain) (λ e. h (sym e))))) in
     ap (λ (b : Bool). not (eqb (s .prefix) 0) && b) (sym (yes-later (leb 3 (tag (s .prefix))) (not (splitsMasterchain s)) not-split))
 
 module _ (s : ShardIdent) (masterchain : s .workchain ≡ negsuc 0) where
@@ -51,13 +47,7 @@ module _ (s : ShardIdent) (masterchain : s .workchain ≡ negsuc 0) where
   -- the byte of workchain -1 is 255
   of-it : (byte : ℕ) → byte < 256 → sameWorkchain (s .workchain) byte ≡ eqb byte 255
   unfolding sameWorkchain
-  of-it byte h = rw masterchain (go (ltb byte 128) refl (eqb byte 255) refl)
-    where
-      go : (low : Bool) → ltb byte 128 ≡ low → (b : Bool) → eqb byte 255 ≡ b → equalℤ (pick low (pos byte) (negsuc (255 - byte))) (negsuc 0) ≡ b
-      go true l true e = absurd (omega (arith, ltb-true byte 128 l, eqb-true byte 255 e))
-      go true l false e = refl
-      go false l true e = eq-eqb (255 - byte) 0 (omega (arith, eqb-true byte 255 e))
-      go false l false e = let n = eqb-false byte 255 e in ne-eqb (255 - byte) 0 (λ q. n (omega arith))
+  of-it byte h = rw masterchain (sym (same-signed byte 255 h (omega arith)))
 
   module _ (shard : isShard s ≡ true) where
     whole : s .prefix ≡ 2 ^ 63

@@ -1,15 +1,40 @@
--- A signed byte against a signed 32-bit number, by the machine's bits.
+-- Signed numbers compared: as such, as bytes, and a byte against 32 bits by the machine's bits.
 use Prim.Native.Nat.{ℕ, suc, _-_, _^_, _<_}
 use mathlib.Core.Path.{_≡_, refl, ap}
 use mathlib.Core.Bool.{Bool, true, false}
 use native.Mathlib.Omega.{arith}
-use lib.Dec.{eqb}
+use lib.Dec.{eqb, ltb}
 use lib.IntN.{ℤ, pos, negsuc, _-ℤ_}
 use mir.Syntax.{w32}
 use mir.Val.{SFits, ofZ, toZ}
 use mir.ValLaws.{toZ-pos}
-use borrow.Author.Tests.{eq-eqb, ne-eqb, eqb-true, eqb-false, lt-ltb}
-use Rattle.shard_ident.specs.Shard.{equalℤ}
+use borrow.Author.Tests.{eq-eqb, ne-eqb, eqb-true, eqb-false, ltb-true, ltb-false, lt-ltb}
+use Rattle.rows.specs.Rows.{pick}
+use Rattle.shard_ident.specs.Shard.{signedByte, equalℤ}
+
+pub equal-self : (a : ℤ) → equalℤ a a ≡ true
+equal-self (pos a) = eq-eqb a a refl
+equal-self (negsuc a) = eq-eqb a a refl
+
+pub equal-differ : (a b : ℤ) → (a ≡ b → ⊥) → equalℤ a b ≡ false
+equal-differ (pos a) (pos b) n = ne-eqb a b (λ e. n (ap pos e))
+equal-differ (pos a) (negsuc b) n = refl
+equal-differ (negsuc a) (pos b) n = refl
+equal-differ (negsuc a) (negsuc b) n = ne-eqb a b (λ e. n (ap negsuc e))
+
+-- two bytes are the same exactly if they are the same signed
+pub same-signed : (a b : ℕ) → a < 256 → b < 256 → eqb a b ≡ equalℤ (signedByte a) (signedByte b)
+same-signed a b ha hb = go (ltb a 128) (ltb b 128) refl refl
+  where
+    high : (x : Bool) → eqb (255 - a) (255 - b) ≡ x → eqb a b ≡ x
+    high true e = eq-eqb a b (omega (arith, eqb-true (255 - a) (255 - b) e))
+    high false e = ne-eqb a b (λ q. eqb-false (255 - a) (255 - b) e (ap (λ (n : ℕ). 255 - n) q))
+
+    go : (x y : Bool) → ltb a 128 ≡ x → ltb b 128 ≡ y → eqb a b ≡ equalℤ (pick x (pos a) (negsuc (255 - a))) (pick y (pos b) (negsuc (255 - b)))
+    go true true p q = refl
+    go true false p q = ne-eqb a b (λ e. omega (arith, e, ltb-true a 128 p, ltb-false b 128 q))
+    go false true p q = ne-eqb a b (λ e. omega (arith, e, ltb-false a 128 p, ltb-true b 128 q))
+    go false false p q = high (eqb (255 - a) (255 - b)) refl
 
 pub same-pos : (b : ℕ) (z : ℤ) → b < 128 → SFits w32 z → eqb b (ofZ w32 z) ≡ equalℤ (pos b) z
 same-pos b (pos n) h f = refl
