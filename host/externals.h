@@ -18,7 +18,10 @@
 #include <stdint.h>
 
 #ifdef __cplusplus
+#define EXT_ASSERT static_assert
 extern "C" {
+#else
+#define EXT_ASSERT _Static_assert
 #endif
 
 /* Chain time, in milliseconds. */
@@ -36,6 +39,7 @@ typedef struct { uint32_t s; } ext_seconds;
 #define EXT_PARTITIONS 8
 #define EXT_RANGES 16
 #define EXT_NO_LIMIT 65535 /* the partition has no limit, that is no entry */
+#define EXT_LOG_BYTES 64   /* the most that a transaction's undo log takes, whatever the cache holds */
 
 /* The place after a message that was read. */
 typedef struct { uint32_t anchor_id; uint64_t msgs_offset; } ext_key;
@@ -54,6 +58,10 @@ typedef struct {
     ext_cache cache, undo;
     bool active, committed;
 } ext_transaction;
+
+/* The layout that the library was compiled for. The undo log is what a transaction holds beside its cache. */
+EXT_ASSERT(sizeof(ext_cache) == 48 && sizeof(ext_transaction) == 104, "another layout than the library's");
+EXT_ASSERT(sizeof(ext_transaction) - sizeof(ext_cache) <= EXT_LOG_BYTES, "the undo log has grown");
 
 /* An anchor as it is imported. */
 typedef struct {

@@ -270,6 +270,11 @@ def caches():
         'info_of_none': HEAD + [info_at(5), in_range(5, 5)],
         'commit_rollback_close': HEAD + some + [do(OPEN), do(POP), do(COMMIT), do(ROLLBACK), do(CLOSE)],
         'commit_pop_close': HEAD + some + [do(OPEN), do(COMMIT), do(POP), do(CLOSE), do(OPEN), do(POP), do(CLOSE)],
+        # what is asked while a transaction is open is answered of the cache as it now is, after a rollback as it was opened
+        'asked_while_open': HEAD + some + [do(OPEN), do(POP), in_range(2, 0), info_at(1000), trim(1000), in_range(3, 0), info_at(TOP64), do(ROLLBACK),
+                                           in_range(2, 0), info_at(TOP64), do(COMMIT), do(POP), in_range(2, 0), do(CLOSE), in_range(2, 0), info_at(TOP64)],
+        'all_gone_and_back': HEAD + some + [do(OPEN), trim(0), do(POP), in_range(9, 0), info_at(TOP64), do(READ), do(ROLLBACK), in_range(9, 0),
+                                            do(POP), do(POP), do(POP), in_range(9, 0), do(READ), do(CLOSE), in_range(9, 0), info_at(TOP64)],
         'freed_places_serve_again': HEAD + [anchor(1, 1, 1, [OURS] * 500), anchor(2, 2, 1, [OURS] * 500), do(POP), anchor(3, 3, 1, [OURS_B] * 512),
                                             do(POP), anchor(4, 4, 1, [OURS] * 512), do(POP), do(POP), do(POP)],
         'marks': HEAD + [rec(0x103, bytes([1, 1]) + bytes([255]) * 8), rec(0x103, bytes(10))],

@@ -13,7 +13,7 @@ use Rattle.anchors_cache.specs.declared.AnchorsCacheTransaction.{AnchorsCacheTr
 use Rattle.anchors_cache.specs.declared.FoundAnchor.the-variants as anchor
 use Rattle.anchors_cache.specs.declared.FoundInfo.the-variants as info
 use Rattle.anchors_cache.specs.declared.FoundId.the-variants as id
-use Rattle.anchors_cache.specs.Tables.{historyBytes, tablesBytes, anchorAt, infoAt}
+use Rattle.anchors_cache.specs.Tables.{tablesBytes, anchorAt, infoAt}
 use Rattle.anchors_cache.specs.Windows.{noCache, anyPlaces}
 use Rattle.anchors_cache.specs.Calls.{placesIn, rowAt, infoRowAt, withCache, infoAnswer, idAnswer, getAnswer, flagAnswer, popAnswer, trimAnswer, rowFor, answer, refusalAt, closedTransaction, closeCall}
 
@@ -56,10 +56,6 @@ a-close-leaves-the-window-to-restore-and-the-mark n tables t = go (refusalAt tru
     go (suc k) = (refl, refl)
 
 -- ---- rows of the tables
--- document 01's numbers
-pub the-tables-are-14912-bytes-and-the-anchors-begin-at-13312 : (tablesBytes ≡ 14912) × (historyBytes ≡ 13312)
-the-tables-are-14912-bytes-and-the-anchors-begin-at-13312 = (refl, refl)
-
 pub past-the-tables-every-number-is-0 : (place : ℕ) (tables : List ℕ)
     → (rowAt maxAnchors place tables ≡ record { id = 0; «chain_time» = record { 0 = 0 }; ours = 0; count = 0; place = place }) × (infoRowAt maxHistory tables ≡ record { id = 0; ct = record { 0 = 0 }; «all_exts_count» = 0; «our_exts_count» = 0 })
 unfolding rowAt infoRowAt

@@ -1,23 +1,25 @@
 -- The claim about any list of calls between an open and a close that answer 0: numbers and final cache are the book's.
-use Prim.Native.Nat.{ℕ, zero, suc, _*_, _/_, _≤_, _<_}
-use mathlib.Core.Path.{_≡_, refl, sym, ap, _∙_}
+use Prim.Native.Nat.{ℕ, zero, suc, _*_, _/_, _^_, _≤_, _<_}
+use mathlib.Core.Path.{_≡_, refl, sym, ap, subst, _∙_}
 use mathlib.Core.Bool.{Bool, true, false, not}
 use mathlib.Core.List.{List, [], _∷_, map}
+use mathlib.Core.Option.{Option}
 use native.Mathlib.Omega.{arith}
 use lib.Dec.{ltb}
 use lib.ListN.{length, drop}
 use borrow.Author.Tests.{le-leb, lt-leb}
 use Rattle.rows.specs.Rows.{pick}
+use Rattle.anchors_cache.specs.declared.AnchorsCache.{AnchorsCache}
 use Rattle.anchors_cache.specs.declared.AnchorsCacheTransaction.{AnchorsCacheTransaction}
 use Rattle.anchors_cache.specs.declared.MempoolAnchor.{MempoolAnchor}
-use Rattle.cache_rules.specs.Rules.{Cache, rowOf, popFront, trim, total, lastOf, rightSize, aboveLast, room, sameBool, ask, maxHistory, areaBytes}
+use Rattle.cache_rules.specs.Rules.{Info, Row, Cache, rowOf, popFront, trim, total, lastOf, rightSize, aboveLast, room, sameBool, ask, maxHistory, areaBytes}
 use Rattle.anchors_cache.specs.Tables.{anchorsOf, view}
-use Rattle.anchors_cache.specs.Windows.{poppedTimes, usedBy}
-use Rattle.anchors_cache.specs.Calls.{placesIn, refusal, refusalAt, onZero, answer, withCache, addNumber, addCall, addInfoNumber, addInfoCall, popAnswer, popCall, popsCall, trimAnswer, trimCall, clearCall, openCall, commitCall, rollbackCall, closeCall}
+use Rattle.anchors_cache.specs.Windows.{poppedTimes, usedBy, anyPlaces}
+use Rattle.anchors_cache.specs.Calls.{placesIn, refusal, refusalAt, onZero, answer, withCache, addNumber, addCall, addInfoNumber, addInfoCall, popAnswer, popCall, popsCall, trimAnswer, trimCall, clearCall, openCall, commitCall, rollbackCall, closeCall, refusalSeen, infoAnswer, shownInfo, idAnswer, getAnswer, shownAnchor, flagAnswer, lastInfoCall, infoAtCtCall, lastIdCall, getCall, pendingCall, pendingInRangeCall}
 use Rattle.anchors_cache.proofs.Laws.{anchors-length, infos-length, rows-of-messages, length-messages}
 use Rattle.anchors_cache.proofs.Asked.{Parts, valid-parts, refusal-zero, at-asked, at-refused, first-asked, add-asked, info-asked}
-use Rattle.cache_laws.specs.Book.{Book, begin, finish, holds, bookRefusal, bookAdd, bookAddInfo, popTimes, Area, same, short, lend, Call, Reading, reading, enter, entered, bookNumbers, performed, numbers}
-use Rattle.cache_laws.specs.Entries.{popping, poppingMany, trimming, committing, rollingBack, closing, opening, clearing, adding, addingInfo}
+use Rattle.cache_laws.specs.Book.{Book, begin, finish, holds, askedOfCaches, bookRefusal, bookAdd, bookAddInfo, popTimes, Area, same, short, lend, Call, Reading, reading, enter, entered, bookNumbers, performed, numbers}
+use Rattle.cache_laws.specs.Entries.{popping, poppingMany, trimming, committing, rollingBack, closing, opening, clearing, adding, addingInfo, Question, lastInfo, infoAt, lastId, get, pending, pendingUpTo, numberOf, asking}
 use Rattle.cache_laws.proofs.Views.{view-popped, view-popped-times, view-trimmed}
 use Rattle.cache_laws.proofs.Kept.{whole, popped-parts, times-parts, trimmed-parts, valid-of, holds-view}
 
@@ -52,6 +54,38 @@ module _ (n : ℕ) (few : n < areaBytes) where
     short-info : addInfoNumber n tables t ≡ 1
     unfolding addInfoNumber
     short-info = rw (lt-leb areaBytes n few)
+
+-- ---- no area is lent
+wider : {places more : ℕ} {tables : List ℕ} {c : AnchorsCache} → places ≤ more → Parts places tables c → Parts more tables c
+wider m p = record { tall = p .tall; in-anchors = p .in-anchors; in-history = p .in-history; sound = p .sound; few = p .few; in-area = omega (arith, m, p .in-area); pend = p .pend }
+
+places-fit : (n : ℕ) → n ≤ 2 ^ 64 → placesIn n ≤ anyPlaces
+places-fit n m = omega arith
+
+-- each question's number is that of question 5
+info-seen : (n : ℕ) (o : Option Info) → infoAnswer n o .number ≡ n
+unfolding infoAnswer shownInfo
+info-seen zero o = refl
+info-seen (suc n) o = refl
+
+id-seen : (n : ℕ) (o : Option Info) → idAnswer n o .number ≡ n
+unfolding idAnswer
+id-seen zero o = refl
+id-seen (suc n) o = refl
+
+get-seen : (n i base : ℕ) (l : List Row) → getAnswer n i base l .number ≡ n
+unfolding getAnswer shownAnchor
+get-seen zero i base l = refl
+get-seen (suc n) i base l = refl
+
+number-seen : (tables : List ℕ) (t : AnchorsCacheTransaction) (q : Question) → numberOf q tables t ≡ refusalSeen tables t
+unfolding lastInfoCall infoAtCtCall lastIdCall getCall pendingCall pendingInRangeCall flagAnswer
+number-seen tables t lastInfo = info-seen _ _
+number-seen tables t (infoAt ct) = info-seen _ _
+number-seen tables t lastId = id-seen _ _
+number-seen tables t (get i) = get-seen _ _ _ _
+number-seen tables t pending = refl
+number-seen tables t (pendingUpTo upTo) = refl
 
 -- ---- the area of the run
 -- questions 6 to 8 with the transaction open never give 0
@@ -92,6 +126,14 @@ module _ (tables area : List ℕ) (big : areaBytes ≤ length area) (t : Anchors
       let q : holds (b .opening) ≡ true = ap holds (sym (s .opening)) ∙ holds-view (placesIn (length area)) tables area (t .undo) (s .then-ok) in
       rw (le-leb areaBytes (length area) big, p, q)
 
+  book-sees : (rest : ℕ) → askedOfCaches (b .present) (b .opening) rest ≡ rest
+  unfolding bookRefusal
+  book-sees rest = ap (λ (x : Bool). ask 1 x (askedOfCaches (b .present) (b .opening) rest)) (sym (le-leb areaBytes (length area) big)) ∙ book-accepts rest
+
+  seen-accepted : placesIn (length area) ≤ anyPlaces → refusalSeen tables t ≡ 0
+  unfolding refusalSeen
+  seen-accepted few = rw (valid-of anyPlaces tables t (wider few (s .now-ok)) (λ h. wider few (s .then-ok)))
+
   rows-same : map rowOf (b .present .anchors) ≡ anchorsOf tables (t .cache)
   unfolding view
   rows-same = ap (λ (v : Cache). map rowOf (v .anchors)) (sym (s .present)) ∙ rows-of-messages (drop (33 * t .cache .base) area) (anchorsOf tables (t .cache))
@@ -115,7 +157,7 @@ module _ (tables area : List ℕ) (big : areaBytes ≤ length area) (t : Anchors
   unfolding bookAddInfo
   info-number = info-asked (length area) tables t accepted ∙ (ap (λ (x : Bool). ask 8 (ltb (t .cache .«history_len») maxHistory) (ask 9 (not x) 0)) (s .is-open) ∙ rw history-same)
 
-on-self : {A : Type 0} (k : ℕ) (x : A) → onZero k x x ≡ x
+pub on-self : {A : Type 0} (k : ℕ) (x : A) → onZero k x x ≡ x
 on-self zero x = refl
 on-self (suc k) x = refl
 
@@ -255,6 +297,14 @@ module _ (tables area : List ℕ) (big : areaBytes ≤ length area) (t : Anchors
   unfolding enter clearCall answer
   clear-next = rw (accepted-at tables area big t b s false, book-accepts tables area big t b s 9) (refl, s)
 
+  -- a question is lent no area and asks as of the longest: the area of the run is one that can be lent
+  ask-next : length area ≤ 2 ^ 64 → (q : Question) → Next (asking q)
+  unfolding enter
+  ask-next lendable q =
+      let seen = seen-accepted tables area big t b s (places-fit (length area) lendable) in
+      let n = askedOfCaches (b .present) (b .opening) 0 in
+      (number-seen tables t q ∙ (seen ∙ sym (book-sees tables area big t b s 0)), subst (Stands tables area t) (sym (on-self n b)) s)
+
 module _ (tables bytes : List ℕ) (few : length bytes < areaBytes) (t : AnchorsCacheTransaction) where
   abbrev One : Call → Type 0
   One k = k .on-window tables bytes t ≡ record { number = 1; state = t }
@@ -333,18 +383,21 @@ open-simulates = record { follows = open-next; refuses = λ tables bytes few t b
 pub clear-simulates : Simulates clearing
 clear-simulates = record { follows = clear-next; refuses = λ tables bytes few t b. (clear-1 tables bytes few t, short-book (length bytes) few b 9) }
 
+pub ask-follows : (q : Question) (tables area : List ℕ) → areaBytes ≤ length area → length area ≤ 2 ^ 64 → Follows tables area (asking q)
+ask-follows q tables area big lendable t b s = ask-next tables area big t b s lendable q
+
 pub close-refuses : Refuses closing
 close-refuses tables bytes few t b = (close-1 tables bytes few t, short-book (length bytes) few b 0)
 
 -- ---- lists of calls
 module _ (tables area : List ℕ) (big : areaBytes ≤ length area) where
-  steps : {K : Type 0} (call : K → Call) → ((k : K) → Follows tables area (call k)) → (ks : List K) (t : AnchorsCacheTransaction) (b : Book) → Stands tables area t b
+  pub list-follows : {K : Type 0} (call : K → Call) → ((k : K) → Follows tables area (call k)) → (ks : List K) (t : AnchorsCacheTransaction) (b : Book) → Stands tables area t b
       → (numbers tables area (map call ks) t ≡ bookNumbers area (map call ks) b) × Stands tables area (performed tables area (map call ks) t) (entered area (map call ks) b)
   unfolding numbers bookNumbers performed entered
-  steps call each [] t b s = (refl, s)
-  steps call each (k ∷ ks) t b s =
+  list-follows call each [] t b s = (refl, s)
+  list-follows call each (k ∷ ks) t b s =
       let p = each k t b s in
-      let q = steps call each ks (call k .on-window tables area t .state) (enter area (call k) b) (p .1) in
+      let q = list-follows call each ks (call k .on-window tables area t .state) (enter area (call k) b) (p .1) in
       (rw (p .0) (ap (λ (l : List ℕ). call k .number area b ∷ l) (q .0)), q .1)
 
   closed : (u : AnchorsCacheTransaction) (b : Book) → Stands tables area u b → (closeCall (length area) tables u .number ≡ 0) × (view tables area (closeCall (length area) tables u .state .cache) ≡ finish b)
@@ -369,18 +422,18 @@ open-asked n tables t e = first-asked _ _ (at-refused n tables t false) e
 -- Any cache and area for which the questions give open the number 0, any list of calls that follow the book, then a
 -- close with the area of the run:
 -- each number is the book's, the close answers 0, and the cache is the book's.
-pub the-book : {K : Type 0} (call : K → Call) → ((k : K) (tables area : List ℕ) → areaBytes ≤ length area → Follows tables area (call k))
-    → (tables area : List ℕ) (t : AnchorsCacheTransaction) (ks : List K) → openCall (length area) tables t .number ≡ 0
+pub the-book : {K : Type 0} (call : K → Call) (tables area : List ℕ) → (areaBytes ≤ length area → (k : K) → Follows tables area (call k))
+    → (t : AnchorsCacheTransaction) (ks : List K) → openCall (length area) tables t .number ≡ 0
     → let u = openCall (length area) tables t .state in
     let d = closeCall (length area) tables (performed tables area (map call ks) u) in
     let b = begin (view tables area (t .cache)) in
     (numbers tables area (map call ks) u ≡ bookNumbers area (map call ks) b) × (d .number ≡ 0) × (view tables area (d .state .cache) ≡ finish (entered area (map call ks) b))
 unfolding openCall answer
-the-book call each tables area t ks e =
+the-book call tables area each t ks e =
     let z = open-asked (length area) tables t e in
     let big = refusal-zero (length area) tables t z .0 in
     let b = begin (view tables area (t .cache)) in
-    let p = steps tables area big call (λ k. each k tables area big) ks (openCall (length area) tables t .state) b (opened tables area t z e) in
+    let p = list-follows tables area big call (each big) ks (openCall (length area) tables t .state) b (opened tables area t z e) in
     let q = closed tables area big (performed tables area (map call ks) (openCall (length area) tables t .state)) (entered area (map call ks) b) (p .1) in
     (p .0, q .0, q .1)
 

@@ -1,4 +1,5 @@
--- What the claim says of an abandoned attempt and of a committed one, and of a book that question 5 refuses.
+-- What the claim says of an abandoned attempt, of a committed one and of the undo log, and of a book that question 5
+-- refuses.
 use Prim.Native.Nat.{ℕ, zero, suc, _≤_}
 use mathlib.Core.Path.{_≡_, refl, sym, ap, _∙_}
 use mathlib.Core.Bool.{Bool, true, false, _||_}
@@ -11,7 +12,7 @@ use Rattle.cache_rules.specs.Rules.{Cache, areaBytes}
 use Rattle.anchors_cache.specs.Tables.{view}
 use Rattle.anchors_cache.specs.Calls.{onZero, openCall, closeCall}
 use Rattle.cache_laws.specs.Book.{Book, begin, holds, askedOfCaches, Change, apply, applied, Effect, changes, commits, rolls-back, nothing, onBook, Call, enter, entered, performed, isCommit, committedIn, keptBy, sinceRollback}
-use Rattle.cache_laws.proofs.Claim.{Follows, the-book}
+use Rattle.cache_laws.proofs.Claim.{Follows, list-follows, opened-stands, the-book}
 
 -- ---- question 5 of what the book holds
 pub a-book-whose-present-or-opening-cache-question-5-refuses-gives-5 : (present opening : Cache) (rest : ℕ)
@@ -86,8 +87,8 @@ present-after area (k ∷ ks) b done h =
     let l = onZero n (keptBy e done) done in
     present-after area ks c l (present-now n e b done h ∙ ap (applied l) (sym o)) ∙ ap (applied (sinceRollback area ks c l)) o
 
-module _ {K : Type 0} (call : K → Call) (each : (k : K) (tables area : List ℕ) → areaBytes ≤ length area → Follows tables area (call k))
-    (tables area : List ℕ) (t : AnchorsCacheTransaction) (ks : List K) (zero-open : openCall (length area) tables t .number ≡ 0) where
+module _ {K : Type 0} (call : K → Call) (tables area : List ℕ) (each : areaBytes ≤ length area → (k : K) → Follows tables area (call k))
+    (t : AnchorsCacheTransaction) (ks : List K) (zero-open : openCall (length area) tables t .number ≡ 0) where
   abbrev calls : List Call
   calls = map call ks
 
@@ -101,7 +102,7 @@ module _ {K : Type 0} (call : K → Call) (each : (k : K) (tables area : List �
   pub an-abandoned-attempt-leaves-the-cache : committedIn area (map call ks) (begin (view tables area (t .cache))) ≡ false
       → view tables area (closeCall (length area) tables (performed tables area (map call ks) (openCall (length area) tables t .state)) .state .cache) ≡ view tables area (t .cache)
   an-abandoned-attempt-leaves-the-cache e =
-      the-book call each tables area t ks zero-open .2
+      the-book call tables area each t ks zero-open .2
       ∙ (ap (λ (m : Bool). pick m (entered area calls start .present) (entered area calls start .opening)) (mark-after area calls start ∙ e) ∙ opening-kept area calls start)
 
   -- with one, anywhere, it is what the pops and trims after the last rollback answering 0 give on the opening cache
@@ -109,5 +110,11 @@ module _ {K : Type 0} (call : K → Call) (each : (k : K) (tables area : List �
       → view tables area (closeCall (length area) tables (performed tables area (map call ks) (openCall (length area) tables t .state)) .state .cache) ≡ applied (sinceRollback area (map call ks) (begin (view tables area (t .cache))) []) (view tables area (t .cache))
   unfolding applied
   a-committed-attempt-keeps-the-changes-since-the-last-rollback e =
-      the-book call each tables area t ks zero-open .2
+      the-book call tables area each t ks zero-open .2
       ∙ (ap (λ (m : Bool). pick m (entered area calls start .present) (entered area calls start .opening)) (mark-after area calls start ∙ e) ∙ present-after area calls start [] refl)
+
+  -- whatever went from the cache, what a rollback restores still stands for all of the opened one
+  pub the-log-stands-for-the-opened-cache : view tables area (performed tables area (map call ks) (openCall (length area) tables t .state) .undo) ≡ view tables area (t .cache)
+  the-log-stands-for-the-opened-cache =
+      let o = opened-stands tables area t zero-open in
+      list-follows tables area (o .0) call (each (o .0)) ks (openCall (length area) tables t .state) start (o .1) .1 .opening ∙ opening-kept area calls start

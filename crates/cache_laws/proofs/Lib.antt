@@ -5,3 +5,4 @@ pub mod Corollaries
 pub mod Free
 pub mod Values
 pub mod Answers
+pub mod Log

@@ -8,8 +8,9 @@ use Rattle.anchors_cache.specs.declared.MempoolAnchor.{MempoolAnchor}
 use Rattle.anchors_cache.specs.declared.Done.{Done}
 use Rattle.anchors_cache.specs.declared.Popped.{Popped}
 use Rattle.anchors_cache.specs.declared.Trimmed.{Trimmed}
-use Rattle.anchors_cache.specs.Calls.{rowFor, addNumber, addCall, addInfoCall, popCall, popsCall, trimCall, clearCall, openCall, commitCall, rollbackCall, closeCall}
-use Rattle.cache_laws.specs.Book.{Call, Effect, changes, commits, rolls-back, nothing, pops, trims, bookRefusal, bookAdd, bookAddInfo}
+use Rattle.ext_types.specs.declared.ExternalKey.{ExternalKey}
+use Rattle.anchors_cache.specs.Calls.{rowFor, addNumber, addCall, addInfoCall, popCall, popsCall, trimCall, clearCall, openCall, commitCall, rollbackCall, closeCall, lastInfoCall, infoAtCtCall, lastIdCall, getCall, pendingCall, pendingInRangeCall}
+use Rattle.cache_laws.specs.Book.{Call, Effect, changes, commits, rolls-back, nothing, pops, trims, askedOfCaches, bookRefusal, bookAdd, bookAddInfo}
 
 -- questions 1 and 5
 abbrev plain : Effect → (List ℕ → List ℕ → AnchorsCacheTransaction → Done) → Call
@@ -66,4 +67,30 @@ addingInfo =
       number = λ area b. bookRefusal (length area) b (bookAddInfo (b .present) 9);
       effect = λ area v. nothing;
       on-window = λ tables area t. addInfoCall (length area) tables t;
+    }
+
+-- ---- what is asked of the cache and changes nothing
+pub data Question : Type 0 where
+  lastInfo : Question
+  infoAt : ℕ → Question
+  lastId : Question
+  get : ℕ → Question
+  pending : Question
+  pendingUpTo : ExternalKey → Question
+
+abbrev pub numberOf : Question → List ℕ → AnchorsCacheTransaction → ℕ
+numberOf lastInfo tables t = lastInfoCall tables t .number
+numberOf (infoAt ct) tables t = infoAtCtCall ct tables t .number
+numberOf lastId tables t = lastIdCall tables t .number
+numberOf (get i) tables t = getCall i tables t .number
+numberOf pending tables t = pendingCall tables t .number
+numberOf (pendingUpTo upTo) tables t = pendingInRangeCall upTo tables t .number
+
+-- question 5 alone: no area is lent
+abbrev pub asking : Question → Call
+asking q =
+    record {
+      number = λ area b. askedOfCaches (b .present) (b .opening) 0;
+      effect = λ area v. nothing;
+      on-window = λ tables area t. record { number = numberOf q tables t; state = t };
     }

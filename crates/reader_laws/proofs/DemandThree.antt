@@ -1,7 +1,7 @@
 -- Demand 3, whole: one claim about every list of calls between an open and a close, and what it says of an abandoned
--- attempt and of a committed one.
+-- attempt, of a committed one and of the undo log.
 use Prim.Native.Nat.{ℕ, _≤_}
-use mathlib.Core.Path.{_≡_, refl, ap}
+use mathlib.Core.Path.{_≡_, refl, sym, ap, _∙_}
 use mathlib.Core.Bool.{true, false}
 use mathlib.Core.List.{List, [], _∷_, map}
 use native.Mathlib.Omega.{arith}
@@ -12,16 +12,18 @@ use Rattle.anchors_cache.specs.declared.AnchorInfo.{AnchorInfo}
 use Rattle.anchors_cache.specs.declared.MempoolAnchor.{MempoolAnchor}
 use Rattle.anchors_cache.specs.Tables.{infoRow, view}
 use Rattle.anchors_cache.specs.Windows.{historyAdded, addedTables, addedArea}
-use Rattle.anchors_cache.specs.Calls.{answer, rowFor, infoWith, addCall, addInfoCall, openCall, closeCall}
+use Rattle.anchors_cache.specs.Calls.{onZero, answer, rowFor, infoWith, addCall, addInfoCall, openCall, closeCall}
 use Rattle.cache_laws.specs.Book.{Book, Area, same, short, lent, begin, finish, enter, applied, reading, entered, bookNumbers, performed, numbers, committedIn, sinceRollback}
-use Rattle.cache_laws.specs.Entries.{popping, poppingMany, trimming, committing, rollingBack, closing, opening, clearing, adding, addingInfo}
-use Rattle.cache_laws.proofs.Claim.{Stands, opened-stands, an-add-in-the-list-writes-nothing, an-entry-in-the-list-writes-nothing, Follows, Simulates, lent-follows, short-follows, pop-simulates, pops-simulates, trim-simulates, reading-simulates, commit-simulates, rollback-simulates, add-simulates, info-simulates, open-simulates, clear-simulates, close-refuses, the-book}
+use Rattle.cache_laws.specs.Entries.{popping, poppingMany, trimming, committing, rollingBack, closing, opening, clearing, adding, addingInfo, asking}
+use Rattle.cache_laws.proofs.Claim.{Stands, opened-stands, an-add-in-the-list-writes-nothing, an-entry-in-the-list-writes-nothing, Follows, Simulates, lent-follows, short-follows, pop-simulates, pops-simulates, trim-simulates, reading-simulates, commit-simulates, rollback-simulates, add-simulates, info-simulates, open-simulates, clear-simulates, close-refuses, ask-follows, on-self, the-book}
 use Rattle.cache_laws.proofs.Corollaries as corollary
 use Rattle.range_laws.specs.OneRange.{Handed, bookSteps, bookReadNumber, readOnWindow}
 use Rattle.range_laws.proofs.Entered.{one-range}
 use Rattle.reader_laws.specs.AllRanges.{HandedAll, bookAllNumber, bookAllPops, readAllOnWindow}
-use Rattle.reader_laws.specs.Steps.{Step, pop, popFronts, trimAbove, readsOne, readsAll, commit, rollback, adds, addsInfo, opens, clears, closes, call, handedBytes, addLeaves, infoLeaves, leaves, NothingWritten}
+use Rattle.reader_laws.specs.Steps.{Step, pop, popFronts, trimAbove, readsOne, readsAll, commit, rollback, adds, addsInfo, opens, clears, closes, asks, call, handedBytes, addLeaves, infoLeaves, leaves, NothingWritten}
+use Rattle.reader_laws.specs.Answers.{Answer, number-alone, saidOfPop, saidOfTrim, saidOf, saidOfRange, saidOfAll, said, answers, bookAnswer, bookAnswers}
 use Rattle.reader_laws.proofs.Entered.{all-ranges}
+use Rattle.reader_laws.proofs.EveryAnswer.{tells-the-book, lent-tells, a-pop-tells, a-trim-tells, a-question-tells, a-read-of-one-range-tells, a-read-of-all-ranges-tells}
 use Rattle.cache_rules.specs.Rules.{areaBytes}
 
 -- ---- each call follows the book
@@ -33,22 +35,52 @@ all-simulates : (h : HandedAll) → Simulates (reading (bookAllNumber h) (λ are
 unfolding all-ranges
 all-simulates h = reading-simulates (all-ranges h)
 
-each : (k : Step) (tables area : List ℕ) → areaBytes ≤ length area → Follows tables area (call k)
-each (pop a) = lent-follows popping pop-simulates a
-each (popFronts a n) = lent-follows (poppingMany n) (pops-simulates n) a
-each (trimAbove a ct) = lent-follows (trimming ct) (trim-simulates ct) a
-each (readsOne a h) = lent-follows _ (one-simulates h) a
-each (readsAll a h) = lent-follows _ (all-simulates h) a
-each (commit a) = lent-follows committing commit-simulates a
-each (rollback a) = lent-follows rollingBack rollback-simulates a
-each (adds a m ours messages) = lent-follows (adding m ours messages) (add-simulates m ours messages) a
-each (addsInfo a i author) = lent-follows addingInfo info-simulates a
-each (opens a) = lent-follows opening open-simulates a
-each (clears a) = lent-follows clearing clear-simulates a
-each (closes bytes p) = λ tables area big. short-follows closing close-refuses bytes p tables area
-
--- ---- no call writes the lent bytes
 module _ (tables area : List ℕ) (big : areaBytes ≤ length area) where
+  each : (k : Step area) → Follows tables area (call k)
+  each (pop a) = lent-follows popping pop-simulates a tables area big
+  each (popFronts a n) = lent-follows (poppingMany n) (pops-simulates n) a tables area big
+  each (trimAbove a ct) = lent-follows (trimming ct) (trim-simulates ct) a tables area big
+  each (readsOne a h) = lent-follows _ (one-simulates h) a tables area big
+  each (readsAll a h) = lent-follows _ (all-simulates h) a tables area big
+  each (commit a) = lent-follows committing commit-simulates a tables area big
+  each (rollback a) = lent-follows rollingBack rollback-simulates a tables area big
+  each (adds a m ours messages) = lent-follows (adding m ours messages) (add-simulates m ours messages) a tables area big
+  each (addsInfo a i author) = lent-follows addingInfo info-simulates a tables area big
+  each (opens a) = lent-follows opening open-simulates a tables area big
+  each (clears a) = lent-follows clearing clear-simulates a tables area big
+  each (closes bytes p) = short-follows closing close-refuses bytes p tables area
+  each (asks p q) = ask-follows q tables area big p
+
+  -- ---- each answer is the book's
+  -- done or refused, a number alone
+  alone : (k : Step area) (b : Book) → number-alone ≡ onZero (call k .number area b) number-alone number-alone
+  alone k b = sym (on-self (call k .number area b) number-alone)
+
+  book-says : (k : Step area) (t : AnchorsCacheTransaction) (b : Book) → Stands tables area t b → said k .on-window tables area t ≡ bookAnswer area k b
+  unfolding bookAnswer
+  book-says (pop a) t b s = lent-tells tables area big popping saidOfPop a-pop-tells pop-simulates a t b s
+  book-says (trimAbove a ct) t b s = lent-tells tables area big (trimming ct) (saidOfTrim ct) (a-trim-tells ct) (trim-simulates ct) a t b s
+  book-says (readsOne a h) t b s = lent-tells tables area big _ (saidOfRange h) (a-read-of-one-range-tells h) (one-simulates h) a t b s
+  book-says (readsAll a h) t b s = lent-tells tables area big _ (saidOfAll h) (a-read-of-all-ranges-tells h) (all-simulates h) a t b s
+  book-says (asks p q) t b s = tells-the-book tables area (asking q) (saidOf q) (a-question-tells q) (ask-follows q tables area big p) t b s
+  book-says (popFronts a n) t b s = alone (popFronts a n) b
+  book-says (commit a) t b s = alone (commit a) b
+  book-says (rollback a) t b s = alone (rollback a) b
+  book-says (adds a m ours messages) t b s = alone (adds a m ours messages) b
+  book-says (addsInfo a i author) t b s = alone (addsInfo a i author) b
+  book-says (opens a) t b s = alone (opens a) b
+  book-says (clears a) t b s = alone (clears a) b
+  book-says (closes bytes p) t b s = alone (closes bytes p) b
+
+  all-answered : (ks : List (Step area)) (t : AnchorsCacheTransaction) (b : Book) → Stands tables area t b → answers tables area ks t ≡ bookAnswers area ks b
+  unfolding answers bookAnswers
+  all-answered [] t b s = refl
+  all-answered (k ∷ ks) t b s =
+      let next = call k .on-window tables area t .state in
+      ap (λ (x : Answer). x ∷ answers tables area ks next) (book-says k t b s)
+      ∙ ap (λ (l : List Answer). bookAnswer area k b ∷ l) (all-answered ks next (enter area (call k) b) (each k t b s .1))
+
+  -- ---- no call writes the lent bytes
   add-leaves : (a : Area) (m : MempoolAnchor) (ours : ℕ) (messages : List ℕ) (t : AnchorsCacheTransaction) (b : Book) → Stands tables area t b
       → addLeaves m ours messages tables (lent area a) t ≡ record { tables = tables; area = lent area a }
   unfolding addCall answer
@@ -62,7 +94,7 @@ module _ (tables area : List ℕ) (big : areaBytes ≤ length area) where
   info-leaves same i author t b s = rw (an-entry-in-the-list-writes-nothing tables area big t b s (historyAdded (infoRow (infoWith i author)) (t .cache) tables) tables)
   info-leaves (short bytes p) i author t b s = rw (ap (λ (d : Done). d .number) (info-simulates .refuses tables bytes p t b .0))
 
-  leaves-lent : (k : Step) (t : AnchorsCacheTransaction) (b : Book) → Stands tables area t b → leaves k tables area t ≡ handedBytes k tables area
+  leaves-lent : (k : Step area) (t : AnchorsCacheTransaction) (b : Book) → Stands tables area t b → leaves tables area k t ≡ handedBytes tables area k
   leaves-lent (adds a m ours messages) t b s = add-leaves a m ours messages t b s
   leaves-lent (addsInfo a i author) t b s = info-leaves a i author t b s
   leaves-lent (pop a) t b s = refl
@@ -75,11 +107,12 @@ module _ (tables area : List ℕ) (big : areaBytes ≤ length area) where
   leaves-lent (opens a) t b s = refl
   leaves-lent (clears a) t b s = refl
   leaves-lent (closes bytes p) t b s = refl
+  leaves-lent (asks p q) t b s = refl
 
-  nothing-written : (ks : List Step) (t : AnchorsCacheTransaction) (b : Book) → Stands tables area t b → NothingWritten tables area ks t
+  nothing-written : (ks : List (Step area)) (t : AnchorsCacheTransaction) (b : Book) → Stands tables area t b → NothingWritten tables area ks t
   unfolding NothingWritten
   nothing-written [] t b s = tt
-  nothing-written (k ∷ ks) t b s = (leaves-lent k t b s, nothing-written ks (call k .on-window tables area t .state) (enter area (call k) b) (each k tables area big t b s .1))
+  nothing-written (k ∷ ks) t b s = (leaves-lent k t b s, nothing-written ks (call k .on-window tables area t .state) (enter area (call k) b) (each k t b s .1))
 
 -- ---- the claim
 -- a run over one table and one message area, from a transaction on: an open, the calls, a close with the area of the
@@ -88,7 +121,7 @@ module _ (tables area : List ℕ) (t : AnchorsCacheTransaction) where
   abbrev pub opened : AnchorsCacheTransaction
   opened = openCall (length area) tables t .state
 
-  abbrev pub closed : List Step → Done
+  abbrev pub closed : List (Step area) → Done
   closed steps = closeCall (length area) tables (performed tables area (map call steps) opened)
 
   abbrev pub start : Book
@@ -96,23 +129,34 @@ module _ (tables area : List ℕ) (t : AnchorsCacheTransaction) where
 
   -- "A call's number is what the questions give"; and the cache that the closed window stands for is the one that the
   -- book ends with
-  pub record RunsAsTheBook (steps : List Step) : Type 0 where
+  pub record RunsAsTheBook (steps : List (Step area)) : Type 0 where
     pub every-number-is-the-book's : numbers tables area (map call steps) opened ≡ bookNumbers area (map call steps) start
+    pub every-answer-is-the-book's : answers tables area steps opened ≡ bookAnswers area steps start
     pub the-close-answers-0 : closed steps .number ≡ 0
     pub the-cache-is-the-book's : view tables area (closed steps .state .cache) ≡ finish (entered area (map call steps) start)
     pub no-call-writes-tables-or-area : NothingWritten tables area steps opened
 
-  module _ (opens-with-0 : openCall (length area) tables t .number ≡ 0) (steps : List Step) where
+  module _ (opens-with-0 : openCall (length area) tables t .number ≡ 0) (steps : List (Step area)) where
     pub demand-three : RunsAsTheBook steps
     demand-three =
-        let p = the-book call each tables area t steps opens-with-0 in
+        let p = the-book call tables area (each tables area) t steps opens-with-0 in
         let o = opened-stands tables area t opens-with-0 in
-        record { every-number-is-the-book's = p .0; the-close-answers-0 = p .1; the-cache-is-the-book's = p .2; no-call-writes-tables-or-area = nothing-written tables area (o .0) steps opened start (o .1) }
+        record {
+          every-number-is-the-book's = p .0;
+          every-answer-is-the-book's = all-answered tables area (o .0) steps opened start (o .1);
+          the-close-answers-0 = p .1;
+          the-cache-is-the-book's = p .2;
+          no-call-writes-tables-or-area = nothing-written tables area (o .0) steps opened start (o .1);
+        }
 
     -- with no commit answering 0 the cache is as at opening
     pub an-abandoned-attempt-leaves-the-cache : committedIn area (map call steps) start ≡ false → view tables area (closed steps .state .cache) ≡ view tables area (t .cache)
-    an-abandoned-attempt-leaves-the-cache e = corollary.an-abandoned-attempt-leaves-the-cache call each tables area t steps opens-with-0 e
+    an-abandoned-attempt-leaves-the-cache e = corollary.an-abandoned-attempt-leaves-the-cache call tables area (each tables area) t steps opens-with-0 e
 
     -- with one, anywhere, it is what the pops and trims after the last rollback answering 0 give on the opening cache
     pub a-committed-attempt-keeps-the-steps-since-the-last-rollback : committedIn area (map call steps) start ≡ true → view tables area (closed steps .state .cache) ≡ applied (sinceRollback area (map call steps) start []) (view tables area (t .cache))
-    a-committed-attempt-keeps-the-steps-since-the-last-rollback e = corollary.a-committed-attempt-keeps-the-changes-since-the-last-rollback call each tables area t steps opens-with-0 e
+    a-committed-attempt-keeps-the-steps-since-the-last-rollback e = corollary.a-committed-attempt-keeps-the-changes-since-the-last-rollback call tables area (each tables area) t steps opens-with-0 e
+
+    -- whatever went from the cache, what a rollback restores still stands for all of the opened one
+    pub the-log-stands-for-the-opened-cache : view tables area (performed tables area (map call steps) opened .undo) ≡ view tables area (t .cache)
+    the-log-stands-for-the-opened-cache = corollary.the-log-stands-for-the-opened-cache call tables area (each tables area) t steps opens-with-0

@@ -1,4 +1,5 @@
 pub mod Entered
+pub mod EveryAnswer
 pub mod DemandThree
 pub mod Laws
 pub mod Conservation

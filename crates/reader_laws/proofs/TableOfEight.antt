@@ -99,7 +99,7 @@ pub record Table : Type 0 where
   -- pop, commit, rollback, close: opening cache
   pub opening-cache : (tables area : List ℕ) (t : AnchorsCacheTransaction) → openCall (length area) tables t .number ≡ 0
       → let u = openCall (length area) tables t .state in
-      let steps = pop same ∷ commit same ∷ rollback same ∷ [] in
+      let steps : List (Step area) = pop same ∷ commit same ∷ rollback same ∷ [] in
       let d = closeCall (length area) tables (performed tables area (map call steps) u) in
       (numbers tables area (map call steps) u ≡ 0 ∷ 0 ∷ 0 ∷ []) × (d .number ≡ 0) × (view tables area (d .state .cache) ≡ view tables area (t .cache))
 
@@ -169,7 +169,7 @@ module _ (tables area : List ℕ) (t : AnchorsCacheTransaction) (zero-open : ope
   abbrev v : Cache
   v = view tables area (t .cache)
 
-  abbrev steps : List Step
+  abbrev steps : List (Step area)
   steps = pop same ∷ commit same ∷ rollback same ∷ []
 
   asked : refusal (length area) tables t ≡ 0

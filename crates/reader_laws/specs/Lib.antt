@@ -1,2 +1,3 @@
 pub mod AllRanges
 pub mod Steps
+pub mod Answers

@@ -19,6 +19,10 @@ pub const ROUTE_BYTES: usize = 34;
 pub const ENTRY_BYTES: usize = 26;
 /// The partition has no limit, that is no entry.
 pub const NO_LIMIT: u16 = 65_535;
+/// The most that a transaction's undo log takes, whatever the cache holds: the transaction without its cache.
+pub const LOG_BYTES: usize = 64;
+
+const _: () = assert!(std::mem::size_of::<Transaction>() - std::mem::size_of::<AnchorsCache>() <= LOG_BYTES);
 
 macro_rules! plain {
     ($($(#[$m:meta])* pub struct $name:ident { $(pub $field:ident: $ty:ty,)* } $size:literal)*) => { $(
