@@ -1,5 +1,5 @@
 -- The claim about any list of calls between an open and a close that answer 0: numbers and final cache are the book's.
-use Prim.Native.Nat.{ℕ, zero, suc, _*_, _/_, _^_, _≤_, _<_}
+use Prim.Native.Nat.{ℕ, zero, suc, _*_, _/_, _≤_, _<_}
 use mathlib.Core.Path.{_≡_, refl, sym, ap, subst, _∙_}
 use mathlib.Core.Bool.{Bool, true, false, not}
 use mathlib.Core.List.{List, [], _∷_, map}
@@ -19,7 +19,7 @@ use Rattle.anchors_cache.specs.Calls.{placesIn, refusal, refusalAt, onZero, ans
 use Rattle.anchors_cache.proofs.Laws.{anchors-length, infos-length, rows-of-messages, length-messages}
 use Rattle.anchors_cache.proofs.Asked.{Parts, valid-parts, refusal-zero, at-asked, at-refused, first-asked, add-asked, info-asked}
 use Rattle.cache_laws.specs.Book.{Book, begin, finish, holds, askedOfCaches, bookRefusal, bookAdd, bookAddInfo, popTimes, Area, same, short, lend, Call, Reading, reading, enter, entered, bookNumbers, performed, numbers}
-use Rattle.cache_laws.specs.Entries.{popping, poppingMany, trimming, committing, rollingBack, closing, opening, clearing, adding, addingInfo, Question, lastInfo, infoAt, lastId, get, pending, pendingUpTo, numberOf, asking}
+use Rattle.cache_laws.specs.Entries.{popping, poppingMany, trimming, committing, rollingBack, closing, opening, clearing, adding, addingInfo, Question, lastInfo, infoAt, lastId, getAt, isPending, isPendingUpTo, numberOf, longestSlice, asking}
 use Rattle.cache_laws.proofs.Views.{view-popped, view-popped-times, view-trimmed}
 use Rattle.cache_laws.proofs.Kept.{whole, popped-parts, times-parts, trimmed-parts, valid-of, holds-view}
 
@@ -59,7 +59,7 @@ module _ (n : ℕ) (few : n < areaBytes) where
 wider : {places more : ℕ} {tables : List ℕ} {c : AnchorsCache} → places ≤ more → Parts places tables c → Parts more tables c
 wider m p = record { tall = p .tall; in-anchors = p .in-anchors; in-history = p .in-history; sound = p .sound; few = p .few; in-area = omega (arith, m, p .in-area); pend = p .pend }
 
-places-fit : (n : ℕ) → n ≤ 2 ^ 64 → placesIn n ≤ anyPlaces
+places-fit : (n : ℕ) → n ≤ longestSlice → placesIn n ≤ anyPlaces
 places-fit n m = omega arith
 
 -- each question's number is that of question 5
@@ -83,9 +83,9 @@ unfolding lastInfoCall infoAtCtCall lastIdCall getCall pendingCall pendingInRang
 number-seen tables t lastInfo = info-seen _ _
 number-seen tables t (infoAt ct) = info-seen _ _
 number-seen tables t lastId = id-seen _ _
-number-seen tables t (get i) = get-seen _ _ _ _
-number-seen tables t pending = refl
-number-seen tables t (pendingUpTo upTo) = refl
+number-seen tables t (getAt i) = get-seen _ _ _ _
+number-seen tables t isPending = refl
+number-seen tables t (isPendingUpTo upTo) = refl
 
 -- ---- the area of the run
 -- questions 6 to 8 with the transaction open never give 0
@@ -297,8 +297,7 @@ module _ (tables area : List ℕ) (big : areaBytes ≤ length area) (t : Anchors
   unfolding enter clearCall answer
   clear-next = rw (accepted-at tables area big t b s false, book-accepts tables area big t b s 9) (refl, s)
 
-  -- a question is lent no area and asks as of the longest: the area of the run is one that can be lent
-  ask-next : length area ≤ 2 ^ 64 → (q : Question) → Next (asking q)
+  ask-next : length area ≤ longestSlice → (q : Question) → Next (asking q)
   unfolding enter
   ask-next lendable q =
       let seen = seen-accepted tables area big t b s (places-fit (length area) lendable) in
@@ -383,7 +382,7 @@ open-simulates = record { follows = open-next; refuses = λ tables bytes few t b
 pub clear-simulates : Simulates clearing
 clear-simulates = record { follows = clear-next; refuses = λ tables bytes few t b. (clear-1 tables bytes few t, short-book (length bytes) few b 9) }
 
-pub ask-follows : (q : Question) (tables area : List ℕ) → areaBytes ≤ length area → length area ≤ 2 ^ 64 → Follows tables area (asking q)
+pub ask-follows : (q : Question) (tables area : List ℕ) → areaBytes ≤ length area → length area ≤ longestSlice → Follows tables area (asking q)
 ask-follows q tables area big lendable t b s = ask-next tables area big t b s lendable q
 
 pub close-refuses : Refuses closing

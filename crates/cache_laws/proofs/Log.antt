@@ -1,5 +1,5 @@
--- The undo log copies nothing that is removed: how many bytes it takes, and the tables beside it. That it stands for the
--- opened cache all the same is in Corollaries.
+-- The undo log copies nothing that is removed: how many bytes it takes, and the tables beside it. That it still stands
+-- for the opened cache is in Corollaries.
 use Prim.Native.Nat.{_+_, _≤_}
 use mathlib.Core.Path.{_≡_, refl}
 use native.Mathlib.Omega.{arith}
@@ -20,9 +20,9 @@ unfolding bytesOf
 a-transaction-takes-56-bytes-more-than-its-cache = refl
 
 -- by the types alone, so whatever the cache holds
-pub the-log-is-within-64-bytes : bytesOf (row transaction.the-type .mir) ≤ bytesOf (row cache.the-type .mir) + logBytes
+pub the-log-is-within-64-bytes : (bytesOf (row transaction.the-type .mir) ≤ bytesOf (row cache.the-type .mir) + logBytes) × (logBytes ≡ 64)
 unfolding bytesOf
-the-log-is-within-64-bytes = omega arith
+the-log-is-within-64-bytes = (omega arith, refl)
 
 -- document 01's numbers: no table is larger for it
 pub the-tables-are-14912-bytes-and-the-anchors-begin-at-13312 : (tablesBytes ≡ 14912) × (historyBytes ≡ 13312)

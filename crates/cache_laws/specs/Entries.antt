@@ -1,6 +1,6 @@
 -- The calls of the cache as document 01's book counts them: number by the questions, what is done where that is 0, and
 -- what the contract says on the window.
-use Prim.Native.Nat.{ℕ}
+use Prim.Native.Nat.{ℕ, _^_}
 use mathlib.Core.List.{List}
 use lib.ListN.{length}
 use Rattle.anchors_cache.specs.declared.AnchorsCacheTransaction.{AnchorsCacheTransaction}
@@ -70,23 +70,29 @@ addingInfo =
     }
 
 -- ---- what is asked of the cache and changes nothing
+-- `last_imported_anchor_info`, the same at a chain time, `get_last_imported_anchor_id_and_ct`, `get` at an index,
+-- `has_pending_externals`, `check_has_pending_externals_in_range` up to a key
 pub data Question : Type 0 where
   lastInfo : Question
   infoAt : ℕ → Question
   lastId : Question
-  get : ℕ → Question
-  pending : Question
-  pendingUpTo : ExternalKey → Question
+  getAt : ℕ → Question
+  isPending : Question
+  isPendingUpTo : ExternalKey → Question
+
+-- no slice has more bytes: a question is lent no message area and asks as of the longest
+abbrev pub longestSlice : ℕ
+longestSlice = 2 ^ 64
 
 abbrev pub numberOf : Question → List ℕ → AnchorsCacheTransaction → ℕ
 numberOf lastInfo tables t = lastInfoCall tables t .number
 numberOf (infoAt ct) tables t = infoAtCtCall ct tables t .number
 numberOf lastId tables t = lastIdCall tables t .number
-numberOf (get i) tables t = getCall i tables t .number
-numberOf pending tables t = pendingCall tables t .number
-numberOf (pendingUpTo upTo) tables t = pendingInRangeCall upTo tables t .number
+numberOf (getAt i) tables t = getCall i tables t .number
+numberOf isPending tables t = pendingCall tables t .number
+numberOf (isPendingUpTo upTo) tables t = pendingInRangeCall upTo tables t .number
 
--- question 5 alone: no area is lent
+-- question 5 alone
 abbrev pub asking : Question → Call
 asking q =
     record {

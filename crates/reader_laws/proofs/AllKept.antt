@@ -1,4 +1,5 @@
--- What a read of all keeps: question 5 of its reader; and what it answers: the mark, numbers 10 to 14, sums within a cap.
+-- What a read of all keeps: question 5 of its reader; and what it answers: the mark, numbers 10 to 14, sums within a
+-- cap.
 use Prim.Native.Nat.{ℕ, _≤_}
 use mathlib.Core.Path.{_≡_, refl, sym, ap, subst, _∙_}
 use mathlib.Core.Bool.{Bool, true, false, _||_}

@@ -4,7 +4,6 @@ use Prim.Native.Nat.{ℕ, _≤_}
 use mathlib.Core.Path.{_≡_, refl, sym, ap, _∙_}
 use mathlib.Core.Bool.{true, false}
 use mathlib.Core.List.{List, [], _∷_, map}
-use native.Mathlib.Omega.{arith}
 use lib.ListN.{length}
 use Rattle.anchors_cache.specs.declared.AnchorsCacheTransaction.{AnchorsCacheTransaction}
 use Rattle.anchors_cache.specs.declared.Done.{Done}
@@ -21,9 +20,9 @@ use Rattle.range_laws.specs.OneRange.{Handed, bookSteps, bookReadNumber, readOn
 use Rattle.range_laws.proofs.Entered.{one-range}
 use Rattle.reader_laws.specs.AllRanges.{HandedAll, bookAllNumber, bookAllPops, readAllOnWindow}
 use Rattle.reader_laws.specs.Steps.{Step, pop, popFronts, trimAbove, readsOne, readsAll, commit, rollback, adds, addsInfo, opens, clears, closes, asks, call, handedBytes, addLeaves, infoLeaves, leaves, NothingWritten}
-use Rattle.reader_laws.specs.Answers.{Answer, number-alone, saidOfPop, saidOfTrim, saidOf, saidOfRange, saidOfAll, said, answers, bookAnswer, bookAnswers}
+use Rattle.reader_laws.specs.Answers.{Answered, number-alone, popReply, trimReply, questionReply, rangeReply, allReply, replyOf, answers, bookAnswer, bookAnswers}
 use Rattle.reader_laws.proofs.Entered.{all-ranges}
-use Rattle.reader_laws.proofs.EveryAnswer.{tells-the-book, lent-tells, a-pop-tells, a-trim-tells, a-question-tells, a-read-of-one-range-tells, a-read-of-all-ranges-tells}
+use Rattle.reader_laws.proofs.EveryAnswer.{answers-of-the-book, lent-answers-of-the-book, a-pop-answers-of-its-cache, a-trim-answers-of-its-cache, a-question-answers-of-its-cache, a-read-of-one-range-answers-of-its-cache, a-read-of-all-ranges-answers-of-its-cache}
 use Rattle.cache_rules.specs.Rules.{areaBytes}
 
 -- ---- each call follows the book
@@ -56,29 +55,29 @@ module _ (tables area : List ℕ) (big : areaBytes ≤ length area) where
   alone : (k : Step area) (b : Book) → number-alone ≡ onZero (call k .number area b) number-alone number-alone
   alone k b = sym (on-self (call k .number area b) number-alone)
 
-  book-says : (k : Step area) (t : AnchorsCacheTransaction) (b : Book) → Stands tables area t b → said k .on-window tables area t ≡ bookAnswer area k b
+  answer-is-the-book's : (k : Step area) (t : AnchorsCacheTransaction) (b : Book) → Stands tables area t b → replyOf k .on-window tables area t ≡ bookAnswer area k b
   unfolding bookAnswer
-  book-says (pop a) t b s = lent-tells tables area big popping saidOfPop a-pop-tells pop-simulates a t b s
-  book-says (trimAbove a ct) t b s = lent-tells tables area big (trimming ct) (saidOfTrim ct) (a-trim-tells ct) (trim-simulates ct) a t b s
-  book-says (readsOne a h) t b s = lent-tells tables area big _ (saidOfRange h) (a-read-of-one-range-tells h) (one-simulates h) a t b s
-  book-says (readsAll a h) t b s = lent-tells tables area big _ (saidOfAll h) (a-read-of-all-ranges-tells h) (all-simulates h) a t b s
-  book-says (asks p q) t b s = tells-the-book tables area (asking q) (saidOf q) (a-question-tells q) (ask-follows q tables area big p) t b s
-  book-says (popFronts a n) t b s = alone (popFronts a n) b
-  book-says (commit a) t b s = alone (commit a) b
-  book-says (rollback a) t b s = alone (rollback a) b
-  book-says (adds a m ours messages) t b s = alone (adds a m ours messages) b
-  book-says (addsInfo a i author) t b s = alone (addsInfo a i author) b
-  book-says (opens a) t b s = alone (opens a) b
-  book-says (clears a) t b s = alone (clears a) b
-  book-says (closes bytes p) t b s = alone (closes bytes p) b
+  answer-is-the-book's (pop a) t b s = lent-answers-of-the-book tables area big popping popReply a-pop-answers-of-its-cache pop-simulates a t b s
+  answer-is-the-book's (trimAbove a ct) t b s = lent-answers-of-the-book tables area big (trimming ct) (trimReply ct) (a-trim-answers-of-its-cache ct) (trim-simulates ct) a t b s
+  answer-is-the-book's (readsOne a h) t b s = lent-answers-of-the-book tables area big _ (rangeReply h) (a-read-of-one-range-answers-of-its-cache h) (one-simulates h) a t b s
+  answer-is-the-book's (readsAll a h) t b s = lent-answers-of-the-book tables area big _ (allReply h) (a-read-of-all-ranges-answers-of-its-cache h) (all-simulates h) a t b s
+  answer-is-the-book's (asks p q) t b s = answers-of-the-book tables area (asking q) (questionReply q) (a-question-answers-of-its-cache q) (ask-follows q tables area big p) t b s
+  answer-is-the-book's (popFronts a n) t b s = alone (popFronts a n) b
+  answer-is-the-book's (commit a) t b s = alone (commit a) b
+  answer-is-the-book's (rollback a) t b s = alone (rollback a) b
+  answer-is-the-book's (adds a m ours messages) t b s = alone (adds a m ours messages) b
+  answer-is-the-book's (addsInfo a i author) t b s = alone (addsInfo a i author) b
+  answer-is-the-book's (opens a) t b s = alone (opens a) b
+  answer-is-the-book's (clears a) t b s = alone (clears a) b
+  answer-is-the-book's (closes bytes p) t b s = alone (closes bytes p) b
 
-  all-answered : (ks : List (Step area)) (t : AnchorsCacheTransaction) (b : Book) → Stands tables area t b → answers tables area ks t ≡ bookAnswers area ks b
+  answers-are-the-book's : (ks : List (Step area)) (t : AnchorsCacheTransaction) (b : Book) → Stands tables area t b → answers tables area ks t ≡ bookAnswers area ks b
   unfolding answers bookAnswers
-  all-answered [] t b s = refl
-  all-answered (k ∷ ks) t b s =
+  answers-are-the-book's [] t b s = refl
+  answers-are-the-book's (k ∷ ks) t b s =
       let next = call k .on-window tables area t .state in
-      ap (λ (x : Answer). x ∷ answers tables area ks next) (book-says k t b s)
-      ∙ ap (λ (l : List Answer). bookAnswer area k b ∷ l) (all-answered ks next (enter area (call k) b) (each k t b s .1))
+      ap (λ (x : Answered). x ∷ answers tables area ks next) (answer-is-the-book's k t b s)
+      ∙ ap (λ (l : List Answered). bookAnswer area k b ∷ l) (answers-are-the-book's ks next (enter area (call k) b) (each k t b s .1))
 
   -- ---- no call writes the lent bytes
   add-leaves : (a : Area) (m : MempoolAnchor) (ours : ℕ) (messages : List ℕ) (t : AnchorsCacheTransaction) (b : Book) → Stands tables area t b
@@ -143,7 +142,7 @@ module _ (tables area : List ℕ) (t : AnchorsCacheTransaction) where
         let o = opened-stands tables area t opens-with-0 in
         record {
           every-number-is-the-book's = p .0;
-          every-answer-is-the-book's = all-answered tables area (o .0) steps opened start (o .1);
+          every-answer-is-the-book's = answers-are-the-book's tables area (o .0) steps opened start (o .1);
           the-close-answers-0 = p .1;
           the-cache-is-the-book's = p .2;
           no-call-writes-tables-or-area = nothing-written tables area (o .0) steps opened start (o .1);

@@ -2,12 +2,10 @@
 -- calls of the book's present cache.
 use Prim.Native.Nat.{ℕ, zero, suc, _≤_}
 use mathlib.Core.Path.{_≡_, refl, sym, ap, subst, _∙_}
-use mathlib.Core.Bool.{Bool, true, false}
+use mathlib.Core.Bool.{true, false}
 use mathlib.Core.List.{List, [], _∷_}
 use native.Mathlib.Omega.{arith}
-use lib.Dec.{eqb}
 use lib.ListN.{length}
-use lib.Seq.{sets}
 use borrow.Author.Tests.{ne-eqb}
 use Rattle.rows.proofs.Laws.{pick-yes, pick-no}
 use Rattle.messages_buffer.specs.Fullness.{firstNo}
@@ -16,69 +14,68 @@ use Rattle.anchors_cache.specs.declared.Done.{Done}
 use Rattle.cache_rules.specs.Rules.{Cache, areaBytes}
 use Rattle.anchors_cache.specs.Tables.{view}
 use Rattle.anchors_cache.specs.Calls.{onZero, popCall, trimCall, lastInfoCall, infoAtCtCall, lastIdCall, getCall, pendingCall, pendingInRangeCall}
-use Rattle.cache_laws.specs.Book.{Book, Area, same, short, lend, Call, reading, enter}
-use Rattle.cache_laws.specs.Entries.{popping, trimming, Question, asking}
-use Rattle.cache_laws.specs.Entries as question
+use Rattle.cache_laws.specs.Book.{Book, Area, same, short, lend, Call, reading}
+use Rattle.cache_laws.specs.Entries.{popping, trimming, Question, lastInfo, infoAt, lastId, getAt, isPending, isPendingUpTo, asking}
 use Rattle.cache_laws.proofs.Values.{a-pop-answers-the-front-anchor, get-answers-the-anchor-at-its-index, a-trim-answers-the-last-entry-that-is-left, the-last-imported-entry-is-the-last-of-the-history, the-entry-at-ct-is-the-rule's, the-last-id-and-time-are-those-of-the-last-entry, pending-is-that-of-the-cache, pending-in-range-is-the-rule's}
 use Rattle.cache_laws.proofs.Claim.{Stands, Follows, Simulates}
 use Rattle.range_rules.specs.declared.RangeRead.{RangeRead}
 use Rattle.range_rules.specs.Rules.{Outcome}
 use Rattle.range_reader.specs.Calls.{askedNumber, rangeRead, readAnswer, readCall}
 use Rattle.range_laws.specs.OneRange.{Handed, bookSteps, bookReadNumber, readOnWindow}
-use Rattle.externals_reader.specs.Calls.{askedOfRead, allRead, ReadAllResult, unchanged, allResult, readAllCall}
+use Rattle.externals_reader.specs.Calls.{askedOfRead, allRead, ReadAllResult, unchanged, allResult}
 use Rattle.reader_rules.specs.declared.RangesRead.{RangesRead}
 use Rattle.reader_laws.specs.AllRanges.{HandedAll, bookAllRead, bookAllNumber, bookAllPops, readAllOnWindow}
-use Rattle.reader_laws.specs.Answers.{Answer, anchor, entry, id-and-time, flag, Said, saidOfPop, saidOfTrim, saidOf, rangeSaid, saidOfRange, allSaid, nothingRead, saidOfAll, lendSaid}
+use Rattle.reader_laws.specs.Answers.{Answered, anchor, entry, id-and-time, flag, Reply, popReply, trimReply, questionReply, rangeAnswered, rangeReply, allAnswered, nothingRead, allReply, lendReply}
 use Rattle.reader_laws.proofs.Entered.{asked-same, all-same}
 use Rattle.reader_laws.proofs.AllPassed.{answered-yes}
 use Rattle.reader_laws.proofs.AllKept.{answered}
 
 -- for every argument, a transaction open or none: of the cache where the number is 0, else by the number alone
-abbrev pub Tells : Call → Said → Type 0
-Tells k s = (tables area : List ℕ) (t : AnchorsCacheTransaction)
-    → let n = k .on-window tables area t .number in s .on-window tables area t ≡ onZero n (s .of-cache (view tables area (t .cache))) (s .refused n)
+abbrev pub OfItsCache : Call → Reply → Type 0
+OfItsCache k y = (tables area : List ℕ) (t : AnchorsCacheTransaction)
+    → let n = k .on-window tables area t .number in y .on-window tables area t ≡ onZero n (y .of-cache (view tables area (t .cache))) (y .refused n)
 
-of-either : {A : Type 0} (f : A → Answer) (n : ℕ) (a x y : A) → a ≡ onZero n x y → f a ≡ onZero n (f x) (f y)
+of-either : {A : Type 0} (f : A → Answered) (n : ℕ) (a x y : A) → a ≡ onZero n x y → f a ≡ onZero n (f x) (f y)
 of-either f zero a x y e = ap f e
 of-either f (suc n) a x y e = ap f e
 
 -- ---- the cache's calls
-pub a-pop-tells : Tells popping saidOfPop
-a-pop-tells tables area t = of-either anchor (popCall (length area) tables t .number) _ _ _ (a-pop-answers-the-front-anchor tables area t (length area))
+pub a-pop-answers-of-its-cache : OfItsCache popping popReply
+a-pop-answers-of-its-cache tables area t = of-either anchor (popCall (length area) tables t .number) _ _ _ (a-pop-answers-the-front-anchor tables area t (length area))
 
-pub a-trim-tells : (ct : ℕ) → Tells (trimming ct) (saidOfTrim ct)
-a-trim-tells ct tables area t = of-either entry (trimCall (length area) ct tables t .number) _ _ _ (a-trim-answers-the-last-entry-that-is-left tables area t (length area) ct)
+pub a-trim-answers-of-its-cache : (ct : ℕ) → OfItsCache (trimming ct) (trimReply ct)
+a-trim-answers-of-its-cache ct tables area t = of-either entry (trimCall (length area) ct tables t .number) _ _ _ (a-trim-answers-the-last-entry-that-is-left tables area t (length area) ct)
 
-pub a-question-tells : (q : Question) → Tells (asking q) (saidOf q)
-a-question-tells question.lastInfo tables area t = of-either entry (lastInfoCall tables t .number) _ _ _ (the-last-imported-entry-is-the-last-of-the-history tables area t)
-a-question-tells (question.infoAt ct) tables area t = of-either entry (infoAtCtCall ct tables t .number) _ _ _ (the-entry-at-ct-is-the-rule's tables area t ct)
-a-question-tells question.lastId tables area t = of-either id-and-time (lastIdCall tables t .number) _ _ _ (the-last-id-and-time-are-those-of-the-last-entry tables area t)
-a-question-tells (question.get i) tables area t = of-either anchor (getCall i tables t .number) _ _ _ (get-answers-the-anchor-at-its-index tables area t i)
-a-question-tells question.pending tables area t = of-either flag (pendingCall tables t .number) _ _ _ (pending-is-that-of-the-cache tables area t)
-a-question-tells (question.pendingUpTo upTo) tables area t = of-either flag (pendingInRangeCall upTo tables t .number) _ _ _ (pending-in-range-is-the-rule's tables area t upTo)
+pub a-question-answers-of-its-cache : (q : Question) → OfItsCache (asking q) (questionReply q)
+a-question-answers-of-its-cache lastInfo tables area t = of-either entry (lastInfoCall tables t .number) _ _ _ (the-last-imported-entry-is-the-last-of-the-history tables area t)
+a-question-answers-of-its-cache (infoAt ct) tables area t = of-either entry (infoAtCtCall ct tables t .number) _ _ _ (the-entry-at-ct-is-the-rule's tables area t ct)
+a-question-answers-of-its-cache lastId tables area t = of-either id-and-time (lastIdCall tables t .number) _ _ _ (the-last-id-and-time-are-those-of-the-last-entry tables area t)
+a-question-answers-of-its-cache (getAt i) tables area t = of-either anchor (getCall i tables t .number) _ _ _ (get-answers-the-anchor-at-its-index tables area t i)
+a-question-answers-of-its-cache isPending tables area t = of-either flag (pendingCall tables t .number) _ _ _ (pending-is-that-of-the-cache tables area t)
+a-question-answers-of-its-cache (isPendingUpTo upTo) tables area t = of-either flag (pendingInRangeCall upTo tables t .number) _ _ _ (pending-in-range-is-the-rule's tables area t upTo)
 
 -- ---- the reads
-pub a-read-of-one-range-tells : (h : Handed) → Tells (reading (bookReadNumber h) (λ area present. bookSteps h present .value .pops) (readOnWindow h)) (saidOfRange h)
+pub a-read-of-one-range-answers-of-its-cache : (h : Handed) → OfItsCache (reading (bookReadNumber h) (λ area present. bookSteps h present .value .pops) (readOnWindow h)) (rangeReply h)
 unfolding readOnWindow bookSteps readCall rangeRead
-a-read-of-one-range-tells h tables area t = go (firstNo (askedNumber tables area t (h .shard) (h .routes) (h .limits) (h .range) ∷ s .value .walk .number ∷ []))
+a-read-of-one-range-answers-of-its-cache h tables area t = go (firstNo (askedNumber tables area t (h .shard) (h .routes) (h .limits) (h .range) ∷ s .value .walk .number ∷ []))
   where
     s : Outcome RangeRead
     s = bookSteps h (view tables area (t .cache))
 
     go : (n : ℕ) → let r = readAnswer n tables t (h .range) s (h .out) in
-        rangeSaid r ≡ onZero (r .answer .number) (saidOfRange h .of-cache (view tables area (t .cache))) (saidOfRange h .refused (r .answer .number))
+        rangeAnswered r ≡ onZero (r .answer .number) (rangeReply h .of-cache (view tables area (t .cache))) (rangeReply h .refused (r .answer .number))
     go zero = refl
     go (suc n) = rw (ne-eqb (suc n) 0 (λ (e : suc n ≡ 0). omega arith))
 
-pub a-read-of-all-ranges-tells : (h : HandedAll) → Tells (reading (bookAllNumber h) (λ area present. bookAllPops h present) (readAllOnWindow h)) (saidOfAll h)
+pub a-read-of-all-ranges-answers-of-its-cache : (h : HandedAll) → OfItsCache (reading (bookAllNumber h) (λ area present. bookAllPops h present) (readAllOnWindow h)) (allReply h)
 unfolding readAllOnWindow
-a-read-of-all-ranges-tells h tables area t = answered tables area t (h .routes) (h .reader) (h .mode) (h .out) P idle refused done
+a-read-of-all-ranges-answers-of-its-cache h tables area t = answered tables area t (h .routes) (h .reader) (h .mode) (h .out) P idle refused done
   where
     v : Cache
     v = view tables area (t .cache)
 
     P : ReadAllResult → Type 0
-    P d = allSaid d ≡ onZero (d .answer .number) (saidOfAll h .of-cache v) (nothingRead h)
+    P d = allAnswered d ≡ onZero (d .answer .number) (allReply h .of-cache v) (nothingRead h)
 
     asked : ℕ
     asked = askedOfRead tables area t (h .routes) (h .reader)
@@ -107,19 +104,19 @@ a-read-of-all-ranges-tells h tables area t = answered tables area t (h .routes) 
 -- ---- in a list
 module _ (tables area : List ℕ) where
   -- a call that follows the book answers of the book's present cache
-  pub tells-the-book : (k : Call) (s : Said) → Tells k s → Follows tables area k
-      → (t : AnchorsCacheTransaction) (b : Book) → Stands tables area t b → let n = k .number area b in s .on-window tables area t ≡ onZero n (s .of-cache (b .present)) (s .refused n)
-  tells-the-book k s tells follows t b stands =
+  pub answers-of-the-book : (k : Call) (y : Reply) → OfItsCache k y → Follows tables area k
+      → (t : AnchorsCacheTransaction) (b : Book) → Stands tables area t b → let n = k .number area b in y .on-window tables area t ≡ onZero n (y .of-cache (b .present)) (y .refused n)
+  answers-of-the-book k y tells follows t b stands =
       tells tables area t
-      ∙ (ap (λ (n : ℕ). onZero n (s .of-cache (view tables area (t .cache))) (s .refused n)) (follows t b stands .0)
-      ∙ ap (λ (v : Cache). onZero (k .number area b) (s .of-cache v) (s .refused (k .number area b))) (stands .present))
+      ∙ (ap (λ (n : ℕ). onZero n (y .of-cache (view tables area (t .cache))) (y .refused n)) (follows t b stands .0)
+      ∙ ap (λ (v : Cache). onZero (k .number area b) (y .of-cache v) (y .refused (k .number area b))) (stands .present))
 
   -- lent an area that question 1 refuses, it answers as one refused by 1
-  pub lent-tells : areaBytes ≤ length area → (k : Call) (s : Said) → Tells k s → Simulates k → (a : Area)
-      → (t : AnchorsCacheTransaction) (b : Book) → Stands tables area t b → let n = lend a k .number area b in lendSaid a s .on-window tables area t ≡ onZero n (s .of-cache (b .present)) (s .refused n)
-  lent-tells big k s tells m same t b stands = tells-the-book k s tells (m .follows tables area big) t b stands
-  lent-tells big k s tells m (short bytes p) t b stands =
+  pub lent-answers-of-the-book : areaBytes ≤ length area → (k : Call) (y : Reply) → OfItsCache k y → Simulates k → (a : Area)
+      → (t : AnchorsCacheTransaction) (b : Book) → Stands tables area t b → let n = lend a k .number area b in lendReply a y .on-window tables area t ≡ onZero n (y .of-cache (b .present)) (y .refused n)
+  lent-answers-of-the-book big k y tells m same t b stands = answers-of-the-book k y tells (m .follows tables area big) t b stands
+  lent-answers-of-the-book big k y tells m (short bytes p) t b stands =
       let q = m .refuses tables bytes p t b in
       tells tables bytes t
-      ∙ (ap (λ (d : Done). onZero (d .number) (s .of-cache (view tables bytes (t .cache))) (s .refused (d .number))) (q .0)
-      ∙ sym (ap (λ (n : ℕ). onZero n (s .of-cache (b .present)) (s .refused n)) (q .1)))
+      ∙ (ap (λ (d : Done). onZero (d .number) (y .of-cache (view tables bytes (t .cache))) (y .refused (d .number))) (q .0)
+      ∙ sym (ap (λ (n : ℕ). onZero n (y .of-cache (b .present)) (y .refused n)) (q .1)))

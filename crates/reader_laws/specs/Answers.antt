@@ -10,13 +10,15 @@ use Rattle.rows.specs.Rows.{pick}
 use Rattle.anchors_cache.specs.declared.AnchorsCacheTransaction.{AnchorsCacheTransaction}
 use Rattle.cache_rules.specs.Rules.{Info, Anchor, Cache, rowOf, trim, lastOf, frontOf, infoAtCt, pendingUpTo}
 use Rattle.anchors_cache.specs.Values.{IdAndTime, anchorValue, infoValue, idValue, idAndTime}
-use Rattle.anchors_cache.specs.Calls.{onZero, closedTransaction, popCall, trimCall, lastInfoCall, infoAtCtCall, lastIdCall, getCall, pendingCall, pendingInRangeCall}
+use Rattle.anchors_cache.specs.Calls.{onZero, popCall, trimCall, lastInfoCall, infoAtCtCall, lastIdCall, getCall, pendingCall, pendingInRangeCall}
 use Rattle.cache_laws.specs.Book.{Book, Area, lent, enter}
-use Rattle.cache_laws.specs.Entries.{Question}
-use Rattle.cache_laws.specs.Entries as question
+use Rattle.cache_laws.specs.Entries.{Question, lastInfo, infoAt, lastId, getAt, isPending, isPendingUpTo}
 use Rattle.range_rules.specs.declared.ReadCounts.{ReadCounts}
-use Rattle.range_rules.specs.Rules.{noCounts}
-use Rattle.range_reader.specs.Calls.{ReadResult, refusedAnswer, doneAnswer, readCall}
+use Rattle.range_rules.specs.declared.RangeRead.{RangeRead}
+use Rattle.range_rules.specs.declared.ExternalsRangeReaderState.{ExternalsRangeReaderState}
+use Rattle.range_rules.specs.declared.LastChainTime.the-variants.{Nothing}
+use Rattle.range_rules.specs.Rules.{rangeAfter, noCounts}
+use Rattle.range_reader.specs.Calls.{ReadResult, readCall}
 use Rattle.range_laws.specs.OneRange.{Handed, bookSteps}
 use Rattle.reader_rules.specs.declared.ExternalsReader.{ExternalsReader}
 use Rattle.reader_rules.specs.Rules.{Told}
@@ -31,135 +33,151 @@ pub record AllTold : Type 0 where
   pub reader : ExternalsReader
 
 -- a read also leaves the bytes of the output that it was lent
-pub data Answer : Type 0 where
-  number-alone : Answer
-  anchor : Option Anchor → Answer
-  entry : Option Info → Answer
-  id-and-time : Option IdAndTime → Answer
-  flag : Bool → Answer
-  one-range : Told → List ℕ → Answer
-  all-ranges : AllTold → List ℕ → Answer
+pub data Answered : Type 0 where
+  number-alone : Answered
+  anchor : Option Anchor → Answered
+  entry : Option Info → Answered
+  id-and-time : Option IdAndTime → Answered
+  flag : Bool → Answered
+  range-told : Told → List ℕ → Answered
+  all-told : AllTold → List ℕ → Answered
 
 -- One row for each call: what it answers on the window, as its contract says; where its number is 0, of the book's
 -- present cache; and where it is refused, by its number.
-pub record Said : Type 0 where
-  pub on-window : List ℕ → List ℕ → AnchorsCacheTransaction → Answer
-  pub of-cache : Cache → Answer
-  pub refused : ℕ → Answer
+pub record Reply : Type 0 where
+  pub on-window : List ℕ → List ℕ → AnchorsCacheTransaction → Answered
+  pub of-cache : Cache → Answered
+  pub refused : ℕ → Answered
 
-abbrev silent : Said
-silent = record { on-window = λ tables area t. number-alone; of-cache = λ v. number-alone; refused = λ n. number-alone }
+abbrev noReply : Reply
+noReply = record { on-window = λ tables area t. number-alone; of-cache = λ v. number-alone; refused = λ n. number-alone }
 
 -- refused, a call of the cache answers none or "no"
-abbrev pub saidOfPop : Said
-saidOfPop =
+abbrev pub popReply : Reply
+popReply =
     record {
       on-window = λ tables area t. let p = popCall (length area) tables t in anchor (anchorValue area (p .front) (p .author));
       of-cache = λ v. anchor (frontOf (v .anchors));
       refused = λ n. anchor none;
     }
 
-abbrev pub saidOfTrim : ℕ → Said
-saidOfTrim ct =
+abbrev pub trimReply : ℕ → Reply
+trimReply ct =
     record {
       on-window = λ tables area t. let p = trimCall (length area) ct tables t in entry (infoValue (p .last) (p .author));
       of-cache = λ v. entry (lastOf (trim ct v .history));
       refused = λ n. entry none;
     }
 
-abbrev pub saidOf : Question → Said
-saidOf question.lastInfo =
+abbrev pub questionReply : Question → Reply
+questionReply lastInfo =
     record {
       on-window = λ tables area t. let a = lastInfoCall tables t in entry (infoValue (a .info) (a .author));
       of-cache = λ v. entry (lastOf (v .history));
       refused = λ n. entry none;
     }
-saidOf (question.infoAt ct) =
+questionReply (infoAt ct) =
     record {
       on-window = λ tables area t. let a = infoAtCtCall ct tables t in entry (infoValue (a .info) (a .author));
       of-cache = λ v. entry (infoAtCt ct (v .history));
       refused = λ n. entry none;
     }
-saidOf question.lastId =
+questionReply lastId =
     record {
       on-window = λ tables area t. id-and-time (idValue (lastIdCall tables t .last));
       of-cache = λ v. id-and-time (idAndTime (lastOf (v .history)));
       refused = λ n. id-and-time none;
     }
-saidOf (question.get i) =
+questionReply (getAt i) =
     record {
       on-window = λ tables area t. let a = getCall i tables t in anchor (anchorValue area (a .anchor) (a .author));
       of-cache = λ v. anchor (frontOf (drop i (v .anchors)));
       refused = λ n. anchor none;
     }
-saidOf question.pending =
+questionReply isPending =
     record { on-window = λ tables area t. flag (pendingCall tables t .flag); of-cache = λ v. flag (v .pending); refused = λ n. flag false }
-saidOf (question.pendingUpTo upTo) =
+questionReply (isPendingUpTo upTo) =
     record {
       on-window = λ tables area t. flag (pendingInRangeCall upTo tables t .flag);
       of-cache = λ v. flag (pendingUpTo (upTo .«anchor_id») (map rowOf (v .anchors)));
       refused = λ n. flag false;
     }
 
-abbrev pub rangeSaid : ReadResult → Answer
-rangeSaid r = one-range (told (r .answer)) (r .out)
+abbrev pub rangeAnswered : ReadResult → Answered
+rangeAnswered r = range-told (told (r .answer)) (r .out)
 
--- no transaction is part of what a read tells: any may stand there
-abbrev pub saidOfRange : Handed → Said
-saidOfRange h =
+-- what the six steps came to, and the range as they leave it
+abbrev doneTold : ExternalsRangeReaderState → RangeRead → Told
+doneTold range r =
     record {
-      on-window = λ tables area t. rangeSaid (readCall tables area t (h .shard) (h .routes) (h .limits) (h .processed) (h .timeout) (h .mode) (h .range) (h .out));
-      of-cache = λ v. let s = bookSteps h v in one-range (told (doneAnswer (h .range) (s .value) closedTransaction)) (sets (h .out) 0 (s .entries));
-      refused = λ n. one-range (told (refusedAnswer n (h .range) closedTransaction)) (h .out);
+      number = 0;
+      full = r .walk .buffers .full;
+      pops = r .pops;
+      used = r .walk .buffers .used;
+      last = r .last;
+      counts = r .walk .counts;
+      range = rangeAfter range r;
     }
 
-abbrev pub allSaid : ReadAllResult → Answer
-allSaid r = all-ranges (record { used = r .answer .used; counts = r .answer .counts; reader = r .answer .reader }) (r .out)
+-- "A refusal gives only the number"
+abbrev refusedTold : ExternalsRangeReaderState → ℕ → Told
+refusedTold range n = record { number = n; full = false; pops = 0; used = 0; last = Nothing; counts = noCounts; range = range }
 
-abbrev pub nothingRead : HandedAll → Answer
-nothingRead h = all-ranges (record { used = 0; counts = noCounts; reader = h .reader }) (h .out)
+abbrev pub rangeReply : Handed → Reply
+rangeReply h =
+    record {
+      on-window = λ tables area t. rangeAnswered (readCall tables area t (h .shard) (h .routes) (h .limits) (h .processed) (h .timeout) (h .mode) (h .range) (h .out));
+      of-cache = λ v. let s = bookSteps h v in range-told (doneTold (h .range) (s .value)) (sets (h .out) 0 (s .entries));
+      refused = λ n. range-told (refusedTold (h .range) n) (h .out);
+    }
+
+abbrev pub allAnswered : ReadAllResult → Answered
+allAnswered r = all-told (record { used = r .answer .used; counts = r .answer .counts; reader = r .answer .reader }) (r .out)
+
+abbrev pub nothingRead : HandedAll → Answered
+nothingRead h = all-told (record { used = 0; counts = noCounts; reader = h .reader }) (h .out)
 
 -- "Nothing is done once "all ranges read" is set."
-abbrev pub saidOfAll : HandedAll → Said
-saidOfAll h =
+abbrev pub allReply : HandedAll → Reply
+allReply h =
     record {
-      on-window = λ tables area t. allSaid (readAllCall tables area t (h .routes) (h .reader) (h .mode) (h .out));
+      on-window = λ tables area t. allAnswered (readAllCall tables area t (h .routes) (h .reader) (h .mode) (h .out));
       of-cache =
           λ v.
           let s = bookAllRead h v in
           let q = s .value in
           pick (h .reader .«all_ranges_fully_read») (nothingRead h)
-          (all-ranges (record { used = q .«so_far» .used; counts = q .«so_far» .counts; reader = readerAfter (h .reader) q }) (sets (h .out) 0 (s .entries)));
+          (all-told (record { used = q .«so_far» .used; counts = q .«so_far» .counts; reader = readerAfter (h .reader) q }) (sets (h .out) 0 (s .entries)));
       refused = λ n. nothingRead h;
     }
 
 -- a call that is lent its own area
-abbrev pub lendSaid : Area → Said → Said
-lendSaid a s = record { on-window = λ tables area t. s .on-window tables (lent area a) t; of-cache = s .of-cache; refused = s .refused }
+abbrev pub lendReply : Area → Reply → Reply
+lendReply a y = record { on-window = λ tables area t. y .on-window tables (lent area a) t; of-cache = y .of-cache; refused = y .refused }
 
-abbrev pub said : {area : List ℕ} → Step area → Said
-said (pop a) = lendSaid a saidOfPop
-said (trimAbove a ct) = lendSaid a (saidOfTrim ct)
-said (readsOne a h) = lendSaid a (saidOfRange h)
-said (readsAll a h) = lendSaid a (saidOfAll h)
-said (asks p q) = saidOf q
-said (popFronts a n) = silent
-said (commit a) = silent
-said (rollback a) = silent
-said (adds a m ours messages) = silent
-said (addsInfo a i author) = silent
-said (opens a) = silent
-said (clears a) = silent
-said (closes bytes p) = silent
+abbrev pub replyOf : {area : List ℕ} → Step area → Reply
+replyOf (pop a) = lendReply a popReply
+replyOf (trimAbove a ct) = lendReply a (trimReply ct)
+replyOf (readsOne a h) = lendReply a (rangeReply h)
+replyOf (readsAll a h) = lendReply a (allReply h)
+replyOf (asks p q) = questionReply q
+replyOf (popFronts a n) = noReply
+replyOf (commit a) = noReply
+replyOf (rollback a) = noReply
+replyOf (adds a m ours messages) = noReply
+replyOf (addsInfo a i author) = noReply
+replyOf (opens a) = noReply
+replyOf (clears a) = noReply
+replyOf (closes bytes p) = noReply
 
 -- ---- lists of calls
-unfoldable pub answers : (tables area : List ℕ) → List (Step area) → AnchorsCacheTransaction → List Answer
+unfoldable pub answers : (tables area : List ℕ) → List (Step area) → AnchorsCacheTransaction → List Answered
 answers tables area [] t = []
-answers tables area (k ∷ ks) t = said k .on-window tables area t ∷ answers tables area ks (call k .on-window tables area t .state)
+answers tables area (k ∷ ks) t = replyOf k .on-window tables area t ∷ answers tables area ks (call k .on-window tables area t .state)
 
-unfoldable pub bookAnswer : (area : List ℕ) → Step area → Book → Answer
-bookAnswer area k b = let n = call k .number area b in onZero n (said k .of-cache (b .present)) (said k .refused n)
+unfoldable pub bookAnswer : (area : List ℕ) → Step area → Book → Answered
+bookAnswer area k b = let n = call k .number area b in onZero n (replyOf k .of-cache (b .present)) (replyOf k .refused n)
 
-unfoldable pub bookAnswers : (area : List ℕ) → List (Step area) → Book → List Answer
+unfoldable pub bookAnswers : (area : List ℕ) → List (Step area) → Book → List Answered
 bookAnswers area [] b = []
 bookAnswers area (k ∷ ks) b = bookAnswer area k b ∷ bookAnswers area ks (enter area (call k) b)

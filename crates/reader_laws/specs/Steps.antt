@@ -1,6 +1,6 @@
 -- The calls that may stand between an open and a close, with what each is handed beside cache and transaction, and what
 -- each is in document 01's book.
-use Prim.Native.Nat.{ℕ, _^_, _<_, _≤_}
+use Prim.Native.Nat.{ℕ, _<_, _≤_}
 use mathlib.Core.Path.{_≡_}
 use mathlib.Core.List.{List, [], _∷_}
 use lib.ListN.{length}
@@ -11,13 +11,13 @@ use Rattle.anchors_cache.specs.Tables.{infoRow}
 use Rattle.anchors_cache.specs.Windows.{historyAdded, addedTables, addedArea}
 use Rattle.anchors_cache.specs.Calls.{onZero, infoWith, addInfoNumber, rowFor, addNumber}
 use Rattle.cache_laws.specs.Book.{Area, short, lent, lend, Call, reading}
-use Rattle.cache_laws.specs.Entries.{popping, poppingMany, trimming, committing, rollingBack, closing, opening, clearing, adding, addingInfo, Question, asking}
+use Rattle.cache_laws.specs.Entries.{popping, poppingMany, trimming, committing, rollingBack, closing, opening, clearing, adding, addingInfo, Question, longestSlice, asking}
 use Rattle.range_laws.specs.OneRange.{Handed, bookSteps, bookReadNumber, readOnWindow}
 use Rattle.reader_laws.specs.AllRanges.{HandedAll, bookAllNumber, bookAllPops, readAllOnWindow}
 use Rattle.cache_rules.specs.Rules.{areaBytes}
 
--- Each with the message area of the run or one that question 1 refuses; a close in the list is a refused one. A question
--- is lent no area and asks as of the longest: it stands in a list over an area that can be lent.
+-- Each with the message area of the run or one that question 1 refuses; a close in the list is a refused one. A
+-- question is lent no area and stands in a list over one that can be lent.
 pub data Step (area : List ℕ) : Type 0 where
   pop : Area → Step area
   popFronts : Area → ℕ → Step area
@@ -31,7 +31,7 @@ pub data Step (area : List ℕ) : Type 0 where
   opens : Area → Step area
   clears : Area → Step area
   closes : (bytes : List ℕ) → length bytes < areaBytes → Step area
-  asks : length area ≤ 2 ^ 64 → Question → Step area
+  asks : length area ≤ longestSlice → Question → Step area
 
 abbrev pub call : {area : List ℕ} → Step area → Call
 call (pop a) = lend a popping
