@@ -9,6 +9,6 @@ abbrev pub logBytes : ℕ
 logBytes = 64
 
 -- the bytes that a value of each of these types takes, by the machine's layout
-unfoldable pub bytesOf : List Ty → ℕ
-bytesOf [] = 0
-bytesOf (t ∷ l) = size t + bytesOf l
+unfoldable pub sizeOf : List Ty → ℕ
+sizeOf [] = 0
+sizeOf (t ∷ l) = size t + sizeOf l

@@ -25,7 +25,7 @@ use Rattle.range_laws.specs.OneRange.{Handed, bookSteps, bookReadNumber, readOn
 use Rattle.externals_reader.specs.Calls.{askedOfRead, allRead, ReadAllResult, unchanged, allResult}
 use Rattle.reader_rules.specs.declared.RangesRead.{RangesRead}
 use Rattle.reader_laws.specs.AllRanges.{HandedAll, bookAllRead, bookAllNumber, bookAllPops, readAllOnWindow}
-use Rattle.reader_laws.specs.Answers.{Answered, anchor, entry, id-and-time, flag, Reply, popReply, trimReply, questionReply, rangeAnswered, rangeReply, allAnswered, nothingRead, allReply, lendReply}
+use Rattle.reader_laws.specs.Answers.{Answered, anchor, entry, id-and-time, flag, Reply, popReply, trimReply, questionReply, rangeAnswered, rangeReply, allAnswered, nothingTold, allReply, lendReply}
 use Rattle.reader_laws.proofs.Entered.{asked-same, all-same}
 use Rattle.reader_laws.proofs.AllPassed.{answered-yes}
 use Rattle.reader_laws.proofs.AllKept.{answered}
@@ -75,7 +75,7 @@ a-read-of-all-ranges-answers-of-its-cache h tables area t = answered tables area
     v = view tables area (t .cache)
 
     P : ReadAllResult → Type 0
-    P d = allAnswered d ≡ onZero (d .answer .number) (allReply h .of-cache v) (nothingRead h)
+    P d = allAnswered d ≡ onZero (d .answer .number) (allReply h .of-cache v) (nothingTold h)
 
     asked : ℕ
     asked = askedOfRead tables area t (h .routes) (h .reader)

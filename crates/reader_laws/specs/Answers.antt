@@ -21,8 +21,10 @@ use Rattle.range_rules.specs.Rules.{rangeAfter, noCounts}
 use Rattle.range_reader.specs.Calls.{ReadResult, readCall}
 use Rattle.range_laws.specs.OneRange.{Handed, bookSteps}
 use Rattle.reader_rules.specs.declared.ExternalsReader.{ExternalsReader}
-use Rattle.reader_rules.specs.Rules.{Told}
-use Rattle.externals_reader.specs.Calls.{told, readerAfter, ReadAllResult, readAllCall}
+use Rattle.reader_rules.specs.declared.RangesRead.{RangesRead}
+use Rattle.reader_rules.specs.State.{withState, withMark}
+use Rattle.reader_rules.specs.Rules.{Told, timeSaved}
+use Rattle.externals_reader.specs.Calls.{told, ReadAllResult, readAllCall}
 use Rattle.reader_laws.specs.AllRanges.{HandedAll, bookAllRead}
 use Rattle.reader_laws.specs.Steps.{Step, pop, popFronts, trimAbove, readsOne, readsAll, commit, rollback, adds, addsInfo, opens, clears, closes, asks, call}
 
@@ -106,7 +108,8 @@ questionReply (isPendingUpTo upTo) =
 abbrev pub rangeAnswered : ReadResult → Answered
 rangeAnswered r = range-told (told (r .answer)) (r .out)
 
--- what the six steps came to, and the range as they leave it
+-- What the six steps came to, and the range as they leave it. This and `readerLeft` are written out in the rules'
+-- words, beside the contracts' `doneAnswer` and `readerAfter`: a contract that forgot a part would differ.
 abbrev doneTold : ExternalsRangeReaderState → RangeRead → Told
 doneTold range r =
     record {
@@ -134,8 +137,15 @@ rangeReply h =
 abbrev pub allAnswered : ReadAllResult → Answered
 allAnswered r = all-told (record { used = r .answer .used; counts = r .answer .counts; reader = r .answer .reader }) (r .out)
 
-abbrev pub nothingRead : HandedAll → Answered
-nothingRead h = all-told (record { used = 0; counts = noCounts; reader = h .reader }) (h .out)
+abbrev pub nothingTold : HandedAll → Answered
+nothingTold h = all-told (record { used = 0; counts = noCounts; reader = h .reader }) (h .out)
+
+-- The reader as the ranges' turns leave it. "The saved last chain time changes only if the last range read saw one."
+abbrev readerLeft : ExternalsReader → RangesRead → ExternalsReader
+readerLeft r q =
+    let s = r .«reader_state» in
+    let time = timeSaved (q .«so_far» .last) (s .«last_read_to_anchor_chain_time») in
+    withMark (withState r (record { ranges = q .ranges; len = q .len; «by_partitions» = s .«by_partitions»; «last_read_to_anchor_chain_time» = time })) (q .«so_far» .«all_read»)
 
 -- "Nothing is done once "all ranges read" is set."
 abbrev pub allReply : HandedAll → Reply
@@ -146,9 +156,9 @@ allReply h =
           λ v.
           let s = bookAllRead h v in
           let q = s .value in
-          pick (h .reader .«all_ranges_fully_read») (nothingRead h)
-          (all-told (record { used = q .«so_far» .used; counts = q .«so_far» .counts; reader = readerAfter (h .reader) q }) (sets (h .out) 0 (s .entries)));
-      refused = λ n. nothingRead h;
+          pick (h .reader .«all_ranges_fully_read») (nothingTold h)
+          (all-told (record { used = q .«so_far» .used; counts = q .«so_far» .counts; reader = readerLeft (h .reader) q }) (sets (h .out) 0 (s .entries)));
+      refused = λ n. nothingTold h;
     }
 
 -- a call that is lent its own area
