@@ -28,6 +28,7 @@ C_NAMES = {
     'ExternalsPartitionReaderState': 'ext_partition',
     'MsgsExecutionParams': 'ext_params',
     'ReadCounts': 'ext_counts',
+    'FillState': 'ext_free_answer',
     'FlagAnswer': 'ext_flag',
 }
 RUST_NAMES = {
@@ -38,6 +39,7 @@ RUST_NAMES = {
     'MsgsExecutionParams': 'Params',
     'Externals': 'State',
     'ReadCounts': 'Counts',
+    'FillState': 'FreeAnswer',
     'FlagAnswer': 'Flag',
 }
 # C has no field without a name: a struct of one number names its unit.

@@ -191,16 +191,24 @@ typedef struct { uint8_t number, partition; } ext_partition_shown;
 /* Messages of ours per partition. */
 typedef struct { uint32_t read[EXT_PARTITIONS], expired[EXT_PARTITIONS], buffered[EXT_PARTITIONS]; } ext_counts;
 
+/* The free places of a range: the fewest that one of its buffers has left, which is limit less count, or 0 where it is
+ * full; 1,024 where the range has no partition. Reads tell them as they stand at their end. */
+typedef struct { uint8_t number; uint16_t free; } ext_free_answer;
+
+/* Those of the last range that a read of all ranges has read; not present where it read none. */
+typedef struct { bool present; uint16_t places; } ext_free;
+
 /* The entries take the first `used` bytes of the output. */
 typedef struct {
     uint8_t number;
+    ext_free free;
     size_t used;
     ext_counts counts;
 } ext_all_answer;
 
 typedef struct {
     uint8_t number;
-    bool full;
+    uint16_t free;
     ext_saved_time last_chain_time;
     size_t pops, used;
     ext_counts counts;
@@ -250,6 +258,8 @@ ext_next_range ext_create_next_externals_range_state(ext_reader reader);
 /* ---- the reads. `refill`: the mode Refill, else Continue. */
 ext_all_answer ext_read_into_buffers(ext_externals *e, uint8_t *out, size_t out_len, const uint8_t *tables, size_t tables_len, const uint8_t *area, size_t area_len, const uint8_t *routes, size_t routes_len, bool refill);
 ext_range_answer ext_read_externals_into_buffers(ext_range_and_cache *e, uint8_t *out, size_t out_len, const uint8_t *tables, size_t tables_len, const uint8_t *area, size_t area_len, const uint8_t *routes, size_t routes_len, ext_range_settings settings);
+/* The free places of a range as it stands. */
+ext_free_answer ext_get_max_buffers_fill_state(ext_buffer_limits limits, ext_range range);
 
 /* ---- offsets, and the questions about buffers and ranges */
 uint8_t ext_finalize(ext_reader *reader);

@@ -1,4 +1,4 @@
-/* Document 01's sample session through the library. Prints its seven lines, then some numbers of the other calls. */
+/* Document 01's sample session through the library. Prints its eight lines, then some numbers of the other calls. */
 #include "externals.h"
 
 #include <inttypes.h>
@@ -49,16 +49,21 @@ int main(void) {
     printf("open %d\n", ext_open(&e.transaction, tables, sizeof tables, area, sizeof area));
     ext_all_answer read = ext_read_into_buffers(&e, out, sizeof out, tables, sizeof tables, area, sizeof area, out, 0, false);
     printf("read %d\n", read.number);
+    if (read.free.present) printf("free %d\n", read.free.places);
     show_entries(read.used);
     show_ranges(&e.reader.reader_state);
     printf("close %d\n", ext_close(&e.transaction, tables, sizeof tables, area, sizeof area));
     printf("end %zu %zu %d\n", e.transaction.cache.len, e.transaction.cache.history_len, e.transaction.cache.pending);
 
-    /* Beyond the session: the host takes both messages, and one too many is refused. */
+    /* Beyond the session: the host takes both messages, one too many is refused, and both places are free again. */
     ext_by_partitions counts = ext_count_messages_in_buffers_by_partitions(e.reader);
     printf("count %d %" PRIu32 "\n", counts.number, counts.values[0]);
     printf("taken %d\n", ext_messages_taken(&e.reader, 5, 0, 2));
     printf("taken %d\n", ext_messages_taken(&e.reader, 5, 0, 1));
+    ext_buffer_limits limits;
+    memcpy(limits.by_partitions, e.reader.buffer_limits_by_partitions, sizeof limits.by_partitions);
+    ext_free_answer left = ext_get_max_buffers_fill_state(limits, e.reader.reader_state.ranges[0]);
+    printf("left %d %d\n", left.number, left.free);
     printf("increment %d %d\n", ext_increment_curr_processed_offset(&e.reader, 0), ext_increment_curr_processed_offset(&e.reader, 1));
     printf("finalize %d\n", ext_finalize(&e.reader));
     ext_anchor_shown front = ext_pop_front(&e.transaction, tables, sizeof tables, area, sizeof area);

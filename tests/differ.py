@@ -29,7 +29,7 @@ sys.path.insert(0, os.path.join(TOP, 'oracle', 'gen'))
 import gen_sessions  # noqa: E402
 
 # Lines that are no call's.
-OTHERS = ('S', 'add', 'count', 'range', 'answer', 'at_ct', 'in_range', 'end', 'bad')
+OTHERS = ('S', 'free', 'add', 'count', 'range', 'answer', 'at_ct', 'in_range', 'end', 'bad')
 VALGRIND = 'valgrind -q --error-exitcode=9 '
 
 
@@ -106,6 +106,10 @@ def first_difference(sessions, want, got):
     return None
 
 
+def free(places):
+    return 'free 0' if places == '0' else 'free above 0'
+
+
 def counts(outs):
     """How often each call answered each number."""
     seen = collections.Counter()
@@ -118,8 +122,10 @@ def counts(outs):
                 seen['bad', int(w[2])] += 1
             elif w[0] in ('add', 'count', 'at_ct', 'in_range', 'end'):
                 seen[w[0], -1] += 1
+            elif w[0] == 'free':
+                seen[free(w[1]), -1] += 1
             elif w[0] == 'answer':
-                seen['answer with' + ('out' if w[1] == '-' else '') + ' chain time, full ' + w[2], -1] += 1
+                seen['answer with%s chain time, %s' % ('out' if w[1] == '-' else '', free(w[2])), -1] += 1
     return seen
 
 

@@ -144,10 +144,36 @@ def surprises():
     }
 
 
+def free_places():
+    """Ticket 7 of document 02: `free` behind `read`, unless no range was read or the read was refused."""
+    again = [do(OPEN), do(READ), do(READ), do(CLOSE)]
+    routes = [route(0, acc(0, i), i) for i in range(8)]
+    return {
+        'free_2_of_an_empty_cache_then_the_mark': at(1000, 60, [2]) + again,
+        'free_not_without_limits': at(1000, 60, []) + again,
+        'free_not_of_a_first_refill': HEAD + ONE + [do(OPEN), do(REFILL), do(CLOSE)],
+        'free_not_where_settings_wait': [HEAD[0], settings(1000, 60, 5, 4, 1, [9])] + ONE + again,
+        'free_not_where_refused_by_12': HEAD + [anchor(1, 1000, 2, [OURS, OURS_B]), route(0, acc(0, 1), 3)] + again,
+        'free_not_where_none_is_open': HEAD + ONE + [do(READ), do(REFILL)],
+        'free_8_of_9_beside_1024': at(1000, 60, [9, 1024]) + ONE + again,
+        'free_0_of_limit_0_front_expired': at(61001, 60, [0]) + [anchor(1, 1000, 1, [OURS]), anchor(2, 1001, 1, [OURS])] + ATTEMPT,
+        'free_0_by_another_partition': at(1000, 60, [9, 0]) + ONE + again,
+        'free_not_by_expired_ones': at(61001, 60, [2]) + [anchor(1, 1000, 2, [OURS, OURS]), anchor(2, 1001, 1, [OURS])] + ATTEMPT,
+        'free_not_by_others': at(1000, 60, [1024]) + [anchor(1, 1000, 1, [OTHER, OTHER])] + ATTEMPT,
+        'free_1_of_2': at(1000, 60, [2]) + ONE + again,
+        'free_0_of_1_and_again': at(1000, 60, [1]) + ONE + again,
+        'free_1_of_1024': at(1000, 60, [1024]) + [anchor(1, 1000, 512, [OURS] * 512), anchor(2, 1000, 511, [OURS] * 511)] + ATTEMPT,
+        'free_stays_after_a_rollback': at(1000, 60, [3]) + [anchor(1, 1000, 2, [OURS, OURS]), do(OPEN), do(READ), do(ROLLBACK), do(READ), do(CLOSE)],
+        # the smallest of eight: by the limit, then by the partition that got two messages, wherever that is
+        'free_3_of_eight_limits': at(1000, 60, [5, 4, 9, 3, 7, 3, 1024, 6]) + ATTEMPT,
+        **{'free_3_by_partition_%d' % i: at(1000, 60, [5] * 8) + routes + [anchor(1, 1000, 2, [(0, acc(0, i))] * 2)] + ATTEMPT for i in range(8)},
+    }
+
+
 def sessions():
     """Names and bytes, in the list's order."""
     own = {'extread ' + n: recs for n, recs in named().items() if not n.startswith('x_')}
-    for group in (refusals(), masterchain(), surprises()):
+    for group in (refusals(), masterchain(), surprises(), free_places()):
         own.update({'extread ' + n: recs for n, recs in group.items()})
     some = [('extread %s %d' % (kind, i), session(i, kind)) for kind, n in RANDOM.items() for i in range(1, n + 1)]
     return [(n, flat(recs)) for n, recs in own.items()] + some

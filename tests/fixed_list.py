@@ -468,10 +468,70 @@ def functions():
     }
 
 
+def free_places():
+    """Ticket 7 of document 02: the free places that one range's read answers, and the line `free` of a read of all."""
+    two, three, late = anchor(1, 1000, 2, [OURS, OURS]), anchor(2, 1000, 3, [OURS] * 3), anchor(3, 1000, 2, [OURS, OURS])
+    cache = [two, three, late]
+    again = [do(OPEN), do(READ), do(READ), do(CLOSE)]
+    waiting, both_limits = settled(waiting=1), settled(waiting=1, limits=[9, 9])
+    held = {0: (5, 0, 0)}
+    to_2, to_5 = at((0, 0), (1, 2), seqno=3), at((1, 2), (2, 3), seqno=4)    # of the first two messages, of the next three
+    absent = at()[:-13] + b'\x00' + g.struct.pack('<III', 1024, 3, 4)    # partition 7 is not there, its numbers are
+    return {
+        # one range: 1,024 without partitions, whatever the limits are, also where nothing is looked at
+        **both('free_1024_without_partitions', at(parts={})),
+        **both('free_1024_without_partitions_popped', anchor(1, 1000, 1, [OURS]), at((2, 0), parts={})),
+        **both('free_1024_without_partitions_others', anchor(1, 1000, 1, [OTHER]), at((0, 0), (1, 1), parts={}), head=with_limits(0, 0)),
+        'free_1024_without_partitions_expired': reads(two, at(ct=61001, parts={}), head=with_limits(0)),
+        'free_1024_without_partitions_processed': reads(two, at(parts={}), put_partition(0, (1, 2)), head=with_limits(0)),
+        **both('free_9_of_an_empty_cache', at()),
+        **both('free_4_of_9_at_once', at((1, 2), parts=held), two),
+        **both('free_after_two', two, late, at((0, 0), (1, 2)), head=with_limits(9)),
+        # limit less count, and 0 at a count that is at or above the limit
+        **{'free_of_1024_at_%d' % n: reads(at(parts={0: (n, 0, 0)}), head=with_limits(1024)) for n in (0, 1, 512, 1023, 1024)},
+        **{'free_of_3_at_%d' % n: reads(at(parts={0: (n, 0, 0)}), head=with_limits(3)) for n in (0, 2, 3, 4, 1024)},
+        'free_of_3_at_4_front_expired': reads(two, late, at(ct=61001, parts={0: (4, 0, 0)}), head=with_limits(3)),
+        'free_0_by_a_lowered_limit': HEAD + cache + [at(), do(OPEN), limits(4), one(5, END), limits(1), one(5, END), limits(0), one(5, END), limits(6), one(5, END)],
+        'free_by_a_taken_message': settled(limits=[3]) + cache + [at(), do(OPEN), one(5, END), took(5, 0, 1), one(5, END), took(5, 0, 3), one(5, PREVIOUS)],
+        # the smallest of a range's partitions, of those that are present alone
+        **{'free_2_in_partition_%d' % i: reads(at(parts={p: (7 if p == i else p % 3, 0, 0) for p in range(8)}), head=with_limits(*[9] * 8)) for i in range(8)},
+        'free_by_the_smallest_limit': reads(at(parts={p: (0, 0, 0) for p in range(8)}), head=with_limits(1024, 8, 7, 6, 5, 6, 7, 8)),
+        'free_not_by_an_absent_partition': reads(two, at(parts={2: (1, 0, 0)}), put_partition(0, (9, 9)), head=with_limits(0, 0, 5)),
+        'free_not_by_an_absent_partitions_numbers': reads(two, absent, head=with_limits(9, *[NONE] * 6, 0)),
+        'free_by_the_last_message_put': reads(route(0, B, 1), anchor(1, 1000, 3, [OURS, OURS_B, OURS_B]), at(parts={0: (0, 0, 0), 1: (0, 0, 0)}), head=with_limits(9, 9)),
+        'free_by_the_first_message_put': reads(route(0, B, 1), anchor(1, 1000, 3, [OURS, OURS, OURS_B]), at(parts={0: (0, 0, 0), 1: (0, 0, 0)}), head=with_limits(9, 9)),
+        'free_not_in_a_refusal': reads(two, at(parts={0: (0, 0, 0), 3: (0, 0, 0)})) + [do(OPEN), places(1), at(), one(5, END), places(2), one(5, END)],
+        # a read of all tells the last range that it read, neither the smallest nor the last that it has
+        'free_of_the_second_below_the_first': waiting + cache + [to_2, to_5] + again,
+        'free_of_the_second_above_the_first': waiting + cache + [at((0, 0), (1, 2), seqno=3, parts=held), to_5] + again,
+        'free_of_the_second_without_partitions': both_limits + [two, anchor(2, 1000, 1, [OTHER]), to_2, at((1, 2), (2, 1), seqno=4, parts={})] + again,
+        'free_of_the_made_range': HEAD + cache + [at((0, 0), (1, 2), seqno=3, parts=held), to_5] + again,
+        'free_of_a_range_above_the_own': HEAD + cache + [at((0, 0), (1, 2), seqno=5), at((1, 2), (1, 2), seqno=6, parts=held)] + again,
+        'free_of_a_range_that_ends_the_call': settled(limits=[2]) + cache + [to_5, at((2, 3), (3, 1), seqno=5)] + again + [took(4, 0, 2)] + again,
+        'free_0_of_a_fully_read_range': settled(waiting=1, limits=[2]) + cache + [to_2] + again,
+        'free_before_a_skipped_range': HEAD + cache + [to_2, at((1, 2), (2, 3), seqno=4, parts={0: (5, 1, 1)})] + again,
+        'free_behind_a_skipped_range': HEAD + cache + [at((0, 0), (1, 2), seqno=3, parts={0: (5, 1, 1)}), to_5] + again,
+        'free_before_a_fully_read_range': HEAD + cache + [to_2, at((1, 2), seqno=5, fully=1, parts=held)] + again,
+        'free_behind_a_fully_read_range': waiting + cache + [at((1, 2), seqno=3, fully=1, parts=held), to_5] + again,
+        'free_of_a_refill_before_the_own': HEAD + cache + [to_2, at((1, 2), (2, 3), seqno=5, parts=held), do(OPEN), do(REFILL), do(READ), do(CLOSE)],
+        # no range read: no line
+        'free_not_of_the_own_in_a_refill': HEAD + cache + [at((0, 0), (1, 2), seqno=5), do(OPEN), do(REFILL), do(READ), do(CLOSE)],
+        'free_not_of_skipped_ranges': HEAD + cache + [at((0, 0), (1, 2), seqno=3, parts={0: (0, 1, 1)}), at((1, 2), (2, 3), seqno=4, parts={0: (0, 2, 2)})] + again,
+        'free_not_of_fully_read_ranges': waiting + cache + [at((1, 2), seqno=3, fully=1), at((2, 3), seqno=4, fully=1)] + again,
+        'free_not_where_the_mark_is_set': HEAD + cache + [to_2, marks(1), do(OPEN), do(READ), do(REFILL), function(20), do(READ)],
+        # refused in a later range: no line of the first, and none of an earlier read
+        'free_not_where_refused_later_10': HEAD + cache + [to_2, at((1, 2), (2, 3), seqno=4, parts={0: (0, 0, 0), 5: (0, 0, 0)}), do(OPEN), do(READ), limits(9, NONE, NONE, NONE, NONE, 9), do(READ)],
+        'free_not_where_refused_later_11': HEAD + cache + [to_2, at((2, 5), (9, 9), seqno=4), do(OPEN), do(READ), to_5, do(READ)],
+        'free_not_where_refused_later_14': waiting + cache + [to_2, to_5, places(4), do(OPEN), do(READ), places(5), do(READ), do(READ)],
+        'free_not_in_a_refusal_after_a_read': settled(limits=[2]) + cache + [do(OPEN), do(READ), limits(), do(READ), limits(3), do(READ)],
+        'free_by_other_limits': settled(limits=[2]) + cache + [do(OPEN), do(READ), limits(5), do(READ), limits(1), do(READ), limits(1024), do(READ)],
+    }
+
+
 def sessions():
     """Names and bytes, in the list's order."""
     named = {}
-    for group in (refusals(), walks(), caches(), whole_reads(), functions(), infos()):
+    for group in (refusals(), walks(), caches(), whole_reads(), functions(), infos(), free_places()):
         assert not named.keys() & group.keys()
         named.update(group)
     some = [('%s %d' % (kind, i), g.session(i, kind)) for kind, n in RANDOM.items() for i in range(1, n + 1)]

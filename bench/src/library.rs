@@ -158,8 +158,15 @@ struct Counts {
 }
 
 #[repr(C)]
+struct Free {
+    present: bool,
+    places: u16,
+}
+
+#[repr(C)]
 struct AllAnswer {
     number: u8,
+    free: Free,
     used: usize,
     counts: Counts,
 }
@@ -167,7 +174,7 @@ struct AllAnswer {
 #[repr(C)]
 struct RangeAnswer {
     number: u8,
-    full: bool,
+    free: u16,
     last_chain_time: SavedTime,
     pops: usize,
     used: usize,

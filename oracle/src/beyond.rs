@@ -242,8 +242,10 @@ impl Session<'_> {
         let before = self.reader.copy();
         let (last, full, counts) =
             self.reader.read_one(tx, seqno, to_previous, &router).expect("the copy did it");
+        let free = self.reader.free(seqno);
+        assert_eq!(full, free == 0);
         let last = last.map_or("-".to_owned(), |c| c.to_string());
-        writeln!(self.out, "answer {last} {}", u8::from(full)).unwrap();
+        writeln!(self.out, "answer {last} {free}").unwrap();
         self.counts(&counts);
         self.entries(self.reader.buffered_since(&before));
     }

@@ -181,13 +181,16 @@ impl Session<'_> {
         }
 
         let before = self.reader.copy();
-        let counts = self.reader.read(tx, refill, &router).expect("the copy did it");
+        let (counts, last_read) = self.reader.read(tx, refill, &router).expect("the copy did it");
         let entries = self.reader.buffered_since(&before);
         assert_eq!(self.reader.dump(), copy.dump());
         assert_eq!(hook::dump(hook::cache_of(tx)), hook::dump(hook::cache_of(&copied_tx)));
         let buffered: u64 = counts.values().map(|c| c.buffered).sum();
         assert_eq!(buffered, entries.len() as u64);
 
+        if let Some(seqno) = last_read {
+            writeln!(self.out, "free {}", self.reader.free(seqno)).unwrap();
+        }
         self.entries(entries);
         if self.opts.beyond {
             self.counts(&counts);

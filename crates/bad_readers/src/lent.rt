@@ -9,6 +9,7 @@ use ext_types::Seconds;
 use externals_reader::ReadIntoBuffers;
 use reader_rules::ExternalsReader;
 use reader_rules::GetNextMessageGroupMode;
+use reader_rules::LastFree;
 use reader_rules::MsgsExecutionParams;
 
 pub fn has_pending(c: Case, reader: ExternalsReader) -> FlagAnswer {
@@ -49,9 +50,11 @@ fn unread(number: u8, c: Case, reader: ExternalsReader) -> ReadIntoBuffers {
         expired: zeros,
         buffered: zeros,
     };
+    let free = LastFree::Nothing;
     let t = state::transaction(c);
     ReadIntoBuffers {
         number: number,
+        free: free,
         used: 0,
         counts: counts,
         reader: reader,
@@ -94,7 +97,15 @@ fn is_untouched(out: &[u8; 60]) -> bool {
     check::same(out, &before)
 }
 
-// A refused read answers reader and transaction as it was handed them, and leaves every byte of the output.
+fn is_nothing(free: LastFree) -> bool {
+    match free {
+        LastFree::Nothing => true,
+        LastFree::Places(_) => false,
+    }
+}
+
+// A refused read answers reader and transaction as it was handed them, reports no free places, and leaves every byte of
+// the output.
 pub fn number_of_read(c: Case, reader: ExternalsReader, refill: bool) -> u8 {
     let mut out = [7u8; 60];
     let r = read(c, reader, refill, &mut out);
@@ -110,6 +121,10 @@ pub fn number_of_read(c: Case, reader: ExternalsReader, refill: bool) -> u8 {
         return CHANGED;
     }
     if !is_untouched(&out) {
+        return CHANGED;
+    }
+    let free = r.free;
+    if !is_nothing(free) {
         return CHANGED;
     }
     r.number

@@ -28,6 +28,7 @@ use Rattle.range_reader.specs.Ready.{Wrote}
 use Rattle.range_reader.specs.Calls.{ReadResult, askedNumber, rangeRead, refusedAnswer, doneResult, readCall, checkCall}
 use Rattle.range_reader.proofs.Bounds.{Bounded, every-answer-is-bounded, a-read-with-number-0-stores-its-entries}
 use Rattle.reader_rules.specs.declared.Fixed.{Fixed}
+use Rattle.reader_rules.specs.declared.LastFree.the-variants.{Places}
 use Rattle.reader_rules.specs.declared.RangesRead.{RangesRead}
 use Rattle.reader_rules.specs.declared.SoFar.{SoFar}
 use Rattle.externals_reader.specs.declared.TurnDone.{TurnDone}
@@ -106,14 +107,14 @@ sets-behind a b i (v ∷ vs) = let e : suc (length a + i) ≡ length a + suc i =
 -- ---- what a turn adds
 module _ (x : Fixed) (s : SoFar) (range : ExternalsRangeReaderState) (a : Told) where
   pub done-refused : (a .number ≡ 0 → ⊥)
-      → _≡_ {A = TurnDone} (record { «so_far» = record { number = a .number; pops = s .pops; used = s .used; «all_read» = s .«all_read»; stopped = s .stopped; last = s .last; counts = s .counts }; range = range }) (turnDone x s range a)
+      → _≡_ {A = TurnDone} (record { «so_far» = record { number = a .number; pops = s .pops; used = s .used; «all_read» = s .«all_read»; stopped = s .stopped; free = s .free; last = s .last; counts = s .counts }; range = range }) (turnDone x s range a)
   unfolding turnDone
   done-refused h = sym (pick-no (eqb (a .number) 0) _ _ (ne-eqb (a .number) 0 h))
 
   module _ (all-read stopped : Bool) (counts : ReadCounts) (next : ExternalsRangeReaderState)
-      (ae : all-read ≡ (s .«all_read» && a .range .«fully_read»)) (se : stopped ≡ (a .full && not (a .range .«fully_read»))) (ce : counts ≡ countsAdded (s .counts) (a .counts)) (re : next ≡ settled x (a .range)) where
+      (ae : all-read ≡ (s .«all_read» && a .range .«fully_read»)) (se : stopped ≡ (eqb (a .free) 0 && not (a .range .«fully_read»))) (ce : counts ≡ countsAdded (s .counts) (a .counts)) (re : next ≡ settled x (a .range)) where
     pub done-read : a .number ≡ 0
-        → _≡_ {A = TurnDone} (record { «so_far» = record { number = 0; pops = s .pops + a .pops; used = s .used + a .used; «all_read» = all-read; stopped = stopped; last = a .last; counts = counts }; range = next }) (turnDone x s range a)
+        → _≡_ {A = TurnDone} (record { «so_far» = record { number = 0; pops = s .pops + a .pops; used = s .used + a .used; «all_read» = all-read; stopped = stopped; free = Places (a .free); last = a .last; counts = counts }; range = next }) (turnDone x s range a)
     unfolding turnDone
     done-read z = rw (ae, se, ce, re) (sym (pick-yes (eqb (a .number) 0) _ _ (eq-eqb (a .number) 0 z)))
 

@@ -35,6 +35,7 @@ use Rattle.externals_reader.specs.declared.NextRange.{NextRange}
 use Rattle.externals_reader.specs.declared.ReadIntoBuffers.{ReadIntoBuffers}
 use Rattle.reader_rules.specs.declared.Imported.{Imported}
 use Rattle.reader_rules.specs.declared.Imported.the-variants as imported
+use Rattle.reader_rules.specs.declared.LastFree.the-variants as lastFree
 use Rattle.reader_rules.specs.declared.Fixed.{Fixed}
 use Rattle.reader_rules.specs.declared.RangesRead.{RangesRead}
 
@@ -100,7 +101,7 @@ abbrev pub told : ReadExternals → Told
 told a =
     record {
       number = a .number;
-      full = a .full;
+      free = a .free;
       pops = a .pops;
       used = a .used;
       last = a .«last_chain_time»;
@@ -147,14 +148,14 @@ pub record ReadAllResult : Type 0 where
 
 -- a refusal, and a call that does nothing
 abbrev pub unchanged : ℕ → ExternalsReader → AnchorsCacheTransaction → List ℕ → ReadAllResult
-unchanged number r t out = record { answer = record { number = number; used = 0; counts = noCounts; reader = r; state = t }; out = out }
+unchanged number r t out = record { answer = record { number = number; free = lastFree.Nothing; used = 0; counts = noCounts; reader = r; state = t }; out = out }
 
 abbrev pub allResult : List ℕ → List ℕ → AnchorsCacheTransaction → ExternalsReader → Outcome RangesRead → List ℕ → ReadAllResult
 allResult tables area t r s out =
     let q = s .value in
     pick (eqb (q .«so_far» .number) 0)
     (record {
-      answer = record { number = 0; used = q .«so_far» .used; counts = q .«so_far» .counts; reader = readerAfter r q; state = popsCall (length area) (q .«so_far» .pops) tables t .state };
+      answer = record { number = 0; free = q .«so_far» .free; used = q .«so_far» .used; counts = q .«so_far» .counts; reader = readerAfter r q; state = popsCall (length area) (q .«so_far» .pops) tables t .state };
       out = sets out 0 (s .entries);
     })
     (unchanged (q .«so_far» .number) r t out)

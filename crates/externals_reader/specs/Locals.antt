@@ -37,6 +37,7 @@ abbrev pub readAnswered : List ℕ → List ℕ → AnchorsCacheTransaction → 
 readAnswered tables area t reader r =
     record {
       number = 0;
+      free = r .«so_far» .free;
       used = r .«so_far» .used;
       counts = r .«so_far» .counts;
       reader = readerAfter reader r;

@@ -18,6 +18,7 @@ use reader_rules::ExternalsReaderState;
 use reader_rules::Fixed;
 use reader_rules::GetNextMessageGroupMode;
 use reader_rules::Imported;
+use reader_rules::LastFree;
 use reader_rules::MAX_OPEN_RANGES;
 use reader_rules::MsgsExecutionParams;
 use reader_rules::RangesRead;
@@ -48,9 +49,10 @@ pub struct NextRange {
     pub range: ExternalsRangeReaderState,
 }
 
-// `used` bytes of the output hold the entries.
+// `free` is what the last range read reported; `used` bytes of the output hold the entries.
 pub struct ReadIntoBuffers {
     pub number: u8,
+    pub free: LastFree,
     pub used: usize,
     pub counts: ReadCounts,
     pub reader: ExternalsReader,
@@ -281,8 +283,10 @@ fn fixed_at_entry(
 fn answered(number: u8, reader: ExternalsReader, t: AnchorsCacheTransaction) -> ReadIntoBuffers
     ensures { λ r. ⌜ r ≡ unchanged number reader t [] .answer ⌝ }
 {
+    let free = LastFree::Nothing;
     ReadIntoBuffers {
         number: number,
+        free: free,
         used: 0,
         counts: NO_COUNTS,
         reader: reader,
@@ -335,9 +339,11 @@ fn answer_of(
     let so_far = r.so_far;
     let popped = anchors_cache::pop_fronts(tables, area, t, so_far.pops);
     let after = popped.state;
+    let free = so_far.free;
     let counts = so_far.counts;
     ReadIntoBuffers {
         number: 0,
+        free: free,
         used: so_far.used,
         counts: counts,
         reader: reader_after(reader, r),

@@ -2,6 +2,7 @@
 ghost use Prim.Native.Nat.{ℕ, _+_, _<_, _^_};
 ghost use mathlib.Core.Path.{_≡_};
 ghost use mathlib.Core.Bool.{not, _&&_};
+ghost use lib.Dec.{eqb};
 ghost use lib.ListN.{getD};
 ghost use Rattle.range_reader.specs.Ready.{Wrote};
 ghost use Rattle.reader_rules.specs.Rules.{skipOffsetOf, reached, beforeSkipOffsets, waits, isSkipped, modeFor, settled, sums, countsAdded, rangesRead, timeSaved, nothingRead, readOf};
@@ -22,6 +23,7 @@ use reader_rules::ExternalsPartitionReaderState;
 use reader_rules::Fixed;
 use reader_rules::GetNextMessageGroupMode;
 use reader_rules::Imported;
+use reader_rules::LastFree;
 use reader_rules::MAX_RANGES;
 use reader_rules::RangesRead;
 use reader_rules::SoFar;
@@ -29,6 +31,7 @@ use reader_rules::SoFar;
 fn nothing_read() -> SoFar
     ensures { λ r. ⌜ r ≡ nothingRead ⌝ }
 {
+    let free = LastFree::Nothing;
     let last = LastChainTime::Nothing;
     SoFar {
         number: 0,
@@ -36,6 +39,7 @@ fn nothing_read() -> SoFar
         used: 0,
         all_read: true,
         stopped: false,
+        free: free,
         last: last,
         counts: NO_COUNTS,
     }
@@ -236,6 +240,7 @@ fn after_turn(x: Fixed, s: SoFar, range: ExternalsRangeReaderState, a: ReadExter
         };
     }
     let read = a.range;
+    let free = LastFree::Places(a.free);
     let last = a.last_chain_time;
     let counts = added(s.counts, a.counts);
     let q = SoFar {
@@ -243,7 +248,8 @@ fn after_turn(x: Fixed, s: SoFar, range: ExternalsRangeReaderState, a: ReadExter
         pops: s.pops + a.pops,
         used: s.used + a.used,
         all_read: all_read(s.all_read, read.fully_read),
-        stopped: stops(a.full, read.fully_read),
+        stopped: stops(a.free, read.fully_read),
+        free: free,
         last: last,
         counts: counts,
     };
@@ -263,13 +269,13 @@ fn all_read(so_far: bool, now: bool) -> bool
 }
 
 // A full buffer in a range not fully read ends the call.
-fn stops(full: bool, fully_read: bool) -> bool
-    ensures { λ r. ⌜ r ≡ (full && not «fully_read») ⌝ }
+fn stops(free: u16, fully_read: bool) -> bool
+    ensures { λ r. ⌜ r ≡ (eqb free 0 && not «fully_read») ⌝ }
 {
     if fully_read {
         return false;
     }
-    full
+    free == 0
 }
 
 // The turn of a range, wherever it stands among the others.

@@ -14,7 +14,7 @@ struct Run {
     end: usize,
 }
 
-// No record's text is longer than 113,735 bytes; with more text than this there might be no room for one more.
+// No record's text is longer than 113,761 bytes; with more text than this there might be no room for one more.
 const MOST: usize = 16384;
 
 // The text is written where it is longer than `most`. Where it can't be, the session has stopped.

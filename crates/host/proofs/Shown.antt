@@ -1,6 +1,6 @@
 -- The host's shapes say what the core's say: a flag its mode, a reader there and back, and what is found or not.
 use Prim.Native.Nat.{ℕ}
-use mathlib.Core.Path.{_≡_, refl}
+use mathlib.Core.Path.{_≡_, refl, ap}
 use mathlib.Core.Bool.{true, false}
 use mathlib.Core.List.{List}
 use Rattle.ext_types.specs.declared.ChainTime.{ChainTime}
@@ -14,13 +14,14 @@ use Rattle.range_rules.specs.declared.LastChainTime.{LastChainTime}
 use Rattle.range_rules.specs.declared.LastChainTime.the-variants.{Nothing, Time}
 use Rattle.range_rules.specs.declared.ReadNextExternalsMode.the-variants.{ToTheEnd, ToPreviuosReadTo}
 use Rattle.reader_rules.specs.declared.GetNextMessageGroupMode.the-variants.{Continue, Refill}
+use Rattle.reader_rules.specs.declared.LastFree.the-variants as lastFree
 use Rattle.reader_rules.specs.declared.ExternalsReader.{ExternalsReader}
 use Rattle.externals_reader.specs.Calls.{readAllCall}
 use Rattle.externals_reader.specs.declared.ReadIntoBuffers.{ReadIntoBuffers}
 use Rattle.range_reader.specs.declared.ReadExternals.{ReadExternals}
 use Rattle.host.specs.declared.Externals.{Externals}
 use Rattle.host.specs.declared.Reader.{Reader}
-use Rattle.host.specs.Shapes.{rangeMode, lastTime, savedTime, readerOf, heldReader, anchorShown, infoShown}
+use Rattle.host.specs.Shapes.{rangeMode, lastTime, savedTime, freeOf, readerOf, heldReader, anchorShown, infoShown}
 use Rattle.host.specs.Calls.{oursShown, partitionShown, readAllShown, readAll, readRangeShown}
 
 -- ---- modes
@@ -33,13 +34,13 @@ pub the-flag-of-a-range's-read-says-where-it-ends : (rangeMode true ≡ ToPreviu
 the-flag-of-a-range's-read-says-where-it-ends = (refl, refl)
 
 -- ---- the reader
-time-back : (free : ChainTime) (t : LastChainTime) → lastTime (savedTime free t .present) (savedTime free t .time) ≡ t
-time-back free Nothing = refl
-time-back free (Time ct) = refl
+time-back : (unset : ChainTime) (t : LastChainTime) → lastTime (savedTime unset t .present) (savedTime unset t .time) ≡ t
+time-back unset Nothing = refl
+time-back unset (Time ct) = refl
 
-pub what-the-host-holds-of-the-core's-reader-is-that-reader : (free : ChainTime) (r : ExternalsReader) → readerOf (heldReader free r) ≡ r
+pub what-the-host-holds-of-the-core's-reader-is-that-reader : (unset : ChainTime) (r : ExternalsReader) → readerOf (heldReader unset r) ≡ r
 unfolding readerOf heldReader
-what-the-host-holds-of-the-core's-reader-is-that-reader free r = rw (time-back free (r .«reader_state» .«last_read_to_anchor_chain_time»))
+what-the-host-holds-of-the-core's-reader-is-that-reader unset r = rw (time-back unset (r .«reader_state» .«last_read_to_anchor_chain_time»))
 
 -- ---- what is found
 module _ (number : ℕ) (author : List ℕ) where
@@ -62,6 +63,13 @@ pub the-host-is-told-the-number-bytes-and-counts-of-a-read-of-all : (was : Reade
     → (readAllShown was a .answer .number ≡ a .number) × (readAllShown was a .answer .used ≡ a .used) × (readAllShown was a .answer .counts ≡ a .counts)
 the-host-is-told-the-number-bytes-and-counts-of-a-read-of-all was a = (refl, refl, refl)
 
-pub and-of-a-range's-read-also-its-pops-and-fullness : (a : ReadExternals)
-    → (readRangeShown a .answer .number ≡ a .number) × (readRangeShown a .answer .used ≡ a .used) × (readRangeShown a .answer .counts ≡ a .counts) × (readRangeShown a .answer .pops ≡ a .pops) × (readRangeShown a .answer .full ≡ a .full)
-and-of-a-range's-read-also-its-pops-and-fullness a = (refl, refl, refl, refl, refl)
+pub and-of-a-range's-read-also-its-pops-and-free-places : (a : ReadExternals)
+    → (readRangeShown a .answer .number ≡ a .number) × (readRangeShown a .answer .used ≡ a .used) × (readRangeShown a .answer .counts ≡ a .counts) × (readRangeShown a .answer .pops ≡ a .pops) × (readRangeShown a .answer .free ≡ a .free)
+and-of-a-range's-read-also-its-pops-and-free-places a = (refl, refl, refl, refl, refl)
+
+pub the-host-is-told-the-free-places-of-the-last-range-read : (was : Reader) (a : ReadIntoBuffers)
+    → let free = readAllShown was a .answer .free in
+    (free ≡ freeOf (a .free))
+    × (a .free ≡ lastFree.Nothing → free ≡ record { present = false; places = 0 })
+    × ((n : ℕ) → a .free ≡ lastFree.Places n → free ≡ record { present = true; places = n })
+the-host-is-told-the-free-places-of-the-last-range-read was a = (refl, λ e. ap freeOf e, λ n e. ap freeOf e)

@@ -32,7 +32,7 @@ use Rattle.host.specs.declared.AllRead.{AllRead}
 use Rattle.host.specs.declared.RangeAndCache.{RangeAndCache}
 use Rattle.host.specs.declared.RangeSettings.{RangeSettings}
 use Rattle.host.specs.declared.RangeRead.{RangeRead}
-use Rattle.host.specs.Shapes.{groupMode, rangeMode, noTime, savedTime, stateOf, readerOf, leftReader, anchorShown, infoShown}
+use Rattle.host.specs.Shapes.{groupMode, rangeMode, noTime, savedTime, freeOf, stateOf, readerOf, leftReader, anchorShown, infoShown}
 
 -- ---- the cache
 unfoldable pub popShown : Popped → AnchorPopped
@@ -92,7 +92,7 @@ newShown r = readerShown r (newCall (handedIn (r .«for_shard_id») (r .«block_
 abbrev pub readAllShown : Reader → ReadIntoBuffers → AllRead
 readAllShown was a =
     record {
-      answer = record { number = a .number; used = a .used; counts = a .counts };
+      answer = record { number = a .number; free = freeOf (a .free); used = a .used; counts = a .counts };
       state = record { transaction = a .state; reader = leftReader was (a .number) (a .reader) };
     }
 
@@ -103,7 +103,7 @@ readAll out tables area routes refill e = readAllCall tables area (e .transactio
 abbrev pub readRangeShown : ReadExternals → RangeRead
 readRangeShown a =
     record {
-      answer = record { number = a .number; full = a .full; «last_chain_time» = savedTime noTime (a .«last_chain_time»); pops = a .pops; used = a .used; counts = a .counts };
+      answer = record { number = a .number; free = a .free; «last_chain_time» = savedTime noTime (a .«last_chain_time»); pops = a .pops; used = a .used; counts = a .counts };
       state = record { transaction = a .state; range = a .range };
     }
 

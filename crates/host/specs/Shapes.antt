@@ -18,9 +18,12 @@ use Rattle.range_rules.specs.declared.ReadNextExternalsMode.{ReadNextExternalsM
 use Rattle.range_rules.specs.declared.ReadNextExternalsMode.the-variants.{ToTheEnd, ToPreviuosReadTo}
 use Rattle.reader_rules.specs.declared.GetNextMessageGroupMode.{GetNextMessageGroupMode}
 use Rattle.reader_rules.specs.declared.GetNextMessageGroupMode.the-variants.{Continue, Refill}
+use Rattle.reader_rules.specs.declared.LastFree.{LastFree}
+use Rattle.reader_rules.specs.declared.LastFree.the-variants as lastFree
 use Rattle.reader_rules.specs.declared.ExternalsReader.{ExternalsReader}
 use Rattle.reader_rules.specs.declared.ExternalsReaderState.{ExternalsReaderState}
 use Rattle.host.specs.declared.SavedTime.{SavedTime}
+use Rattle.host.specs.declared.Free.{Free}
 use Rattle.host.specs.declared.ReaderState.{ReaderState}
 use Rattle.host.specs.declared.Reader.{Reader}
 use Rattle.host.specs.declared.AnchorShown.{AnchorShown}
@@ -45,8 +48,13 @@ lastTime false ct = Nothing
 
 -- where there is none, the time beside the mark is free
 abbrev pub savedTime : ChainTime → LastChainTime → SavedTime
-savedTime free Nothing = record { present = false; time = free }
-savedTime free (Time ct) = record { present = true; time = ct }
+savedTime unset Nothing = record { present = false; time = unset }
+savedTime unset (Time ct) = record { present = true; time = ct }
+
+-- ---- free places that may be missing
+abbrev pub freeOf : LastFree → Free
+freeOf lastFree.Nothing = record { present = false; places = 0 }
+freeOf (lastFree.Places n) = record { present = true; places = n }
 
 -- ---- the reader
 abbrev pub stateOf : ReaderState → ExternalsReaderState
@@ -65,17 +73,17 @@ readerOf r =
     }
 
 abbrev pub heldState : ChainTime → ExternalsReaderState → ReaderState
-heldState free s = record { ranges = s .ranges; len = s .len; «by_partitions» = s .«by_partitions»; «last_read_to_anchor_chain_time» = savedTime free (s .«last_read_to_anchor_chain_time») }
+heldState unset s = record { ranges = s .ranges; len = s .len; «by_partitions» = s .«by_partitions»; «last_read_to_anchor_chain_time» = savedTime unset (s .«last_read_to_anchor_chain_time») }
 
 unfoldable pub heldReader : ChainTime → ExternalsReader → Reader
-heldReader free r =
+heldReader unset r =
     record {
       «for_shard_id» = r .«for_shard_id»;
       «block_seqno» = r .«block_seqno»;
       «next_chain_time» = r .«next_chain_time»;
       «msgs_exec_params» = r .«msgs_exec_params»;
       «buffer_limits_by_partitions» = r .«buffer_limits_by_partitions»;
-      «reader_state» = heldState free (r .«reader_state»);
+      «reader_state» = heldState unset (r .«reader_state»);
       «all_ranges_fully_read» = r .«all_ranges_fully_read»;
     }
 

@@ -213,9 +213,11 @@ pub(crate) fn all_read(
     let a = externals_reader::read_into_buffers(tables, area, t, routes, reader, mode, out);
     let counts = a.counts;
     let after = a.state;
+    let last = a.free;
     let left = shapes::left_reader(was, a.number, a.reader);
     let answer = AllAnswer {
         number: a.number,
+        free: shapes::free_of(last),
         used: a.used,
         counts: counts,
     };
@@ -266,7 +268,7 @@ pub(crate) fn range_read(
     let last = a.last_chain_time;
     let answer = RangeAnswer {
         number: a.number,
-        full: a.full,
+        free: a.free,
         last_chain_time: shapes::saved_time(ChainTime(0), last),
         pops: a.pops,
         used: a.used,

@@ -5,6 +5,7 @@ ghost use mathlib.Core.Path.{_≡_};
 ghost use lib.ListN.{length};
 ghost use Rattle.shard_ident.specs.Shard.{containsMessage};
 ghost use Rattle.router.specs.Router.{routesNumber, getPartition};
+ghost use Rattle.messages_buffer.specs.Fullness.{fillState};
 ghost use Rattle.anchors_cache.specs.Calls.{popCall, trimCall, clearCall, openCall, commitCall, rollbackCall, closeCall, lastInfoCall, infoAtCtCall, getCall, pendingCall, pendingInRangeCall, closedTransaction};
 ghost use Rattle.externals_reader.specs.Calls.{resetCall, dropLastCall, partitionIdsCall, nextRangeCall};
 ghost use Rattle.reader_offsets.specs.Calls.{finalizeCall, limitReachedCall, nonZeroOffsetCall, offsetReachedCall, offsetsReachedCall, countCall, hasMessagesCall, notFullyReadCall, readAndCollectedCall, checkReadAndCollectedCall, allCollectedCall, lastOffsetsCall, retainCall, setFromCall, incrementCall, dropCall, setSkipCall, setProcessedCall, takenCall, pendingExternalsCall};
@@ -21,6 +22,7 @@ use ext_types::ExternalKey;
 use ext_types::Seconds;
 use externals_reader::NextRange;
 use externals_reader::PartitionIds;
+use messages_buffer::FillState;
 use range_rules::ExternalsRangeReaderState;
 use range_rules::ProcessedTo;
 use range_rules::ReadCounts;
@@ -119,9 +121,17 @@ pub struct PartitionShown {
     pub partition: u8,
 }
 
+// The free places that the last range read reported; not present where none was read.
+#[repr(C)]
+pub struct Free {
+    pub present: bool,
+    pub places: u16,
+}
+
 #[repr(C)]
 pub struct AllAnswer {
     pub number: u8,
+    pub free: Free,
     pub used: usize,
     pub counts: ReadCounts,
 }
@@ -129,7 +139,7 @@ pub struct AllAnswer {
 #[repr(C)]
 pub struct RangeAnswer {
     pub number: u8,
-    pub full: bool,
+    pub free: u16,
     pub last_chain_time: SavedTime,
     pub pops: usize,
     pub used: usize,
@@ -614,6 +624,19 @@ pub extern "C" fn ext_read_externals_into_buffers(
     let r = cores::range_read(out, tables, area, routes, settings, *e);
     *e = r.state;
     r.answer
+}
+
+// The free places of a range as it stands, for instance after the host has taken messages.
+#[no_mangle]
+pub extern "C" fn ext_get_max_buffers_fill_state(
+    limits: BufferLimits,
+    range: ExternalsRangeReaderState,
+) -> FillState
+    ensures { λ r. ⌜ r ≡ fillState (limits .«by_partitions») (range .«by_partitions») ⌝ }
+{
+    let by_partitions = limits.by_partitions;
+    let partitions = range.by_partitions;
+    messages_buffer::get_max_buffers_fill_state(by_partitions, partitions)
 }
 
 #[no_mangle]

@@ -2,9 +2,10 @@
 ghost use mathlib.Core.Path.{_≡_};
 ghost use Rattle.shard_ident.specs.Shard.{answerOf as membership};
 ghost use Rattle.router.specs.Router.{answerOf};
-ghost use Rattle.host.specs.Shapes.{groupMode, rangeMode, lastTime, savedTime, stateOf, readerOf, heldState, heldReader, leftReader, anchorShown, infoShown};
+ghost use Rattle.host.specs.Shapes.{groupMode, rangeMode, lastTime, savedTime, freeOf, stateOf, readerOf, heldState, heldReader, leftReader, anchorShown, infoShown};
 ghost use Rattle.host.specs.Calls.{readerShown, oursShown, partitionShown};
 use crate::AnchorShown;
+use crate::Free;
 use crate::InfoShown;
 use crate::PartitionShown;
 use crate::Reader;
@@ -24,6 +25,7 @@ use range_rules::ReadNextExternalsMode;
 use reader_rules::ExternalsReader;
 use reader_rules::ExternalsReaderState;
 use reader_rules::GetNextMessageGroupMode;
+use reader_rules::LastFree;
 use router::Routed;
 use shard_ident::Membership;
 
@@ -54,18 +56,33 @@ fn last_time(present: bool, time: ChainTime) -> LastChainTime
     LastChainTime::Nothing
 }
 
-pub(crate) fn saved_time(free: ChainTime, last: LastChainTime) -> SavedTime
-    ensures { λ r. ⌜ r ≡ savedTime free last ⌝ }
+pub(crate) fn saved_time(unset: ChainTime, last: LastChainTime) -> SavedTime
+    ensures { λ r. ⌜ r ≡ savedTime unset last ⌝ }
 {
     let LastChainTime::Time(ct) = last else {
         return SavedTime {
             present: false,
-            time: free,
+            time: unset,
         };
     };
     SavedTime {
         present: true,
         time: ct,
+    }
+}
+
+pub(crate) fn free_of(free: LastFree) -> Free
+    ensures { λ r. ⌜ r ≡ freeOf free ⌝ }
+{
+    let LastFree::Places(places) = free else {
+        return Free {
+            present: false,
+            places: 0,
+        };
+    };
+    Free {
+        present: true,
+        places: places,
     }
 }
 
@@ -104,13 +121,13 @@ pub(crate) fn reader_of(r: Reader) -> ExternalsReader
     }
 }
 
-fn held_state(free: ChainTime, s: ExternalsReaderState) -> ReaderState
-    ensures { λ r. ⌜ r ≡ heldState free s ⌝ }
+fn held_state(unset: ChainTime, s: ExternalsReaderState) -> ReaderState
+    ensures { λ r. ⌜ r ≡ heldState unset s ⌝ }
 {
     let ranges = s.ranges;
     let parts = s.by_partitions;
     let last = s.last_read_to_anchor_chain_time;
-    let saved = saved_time(free, last);
+    let saved = saved_time(unset, last);
     ReaderState {
         ranges: ranges,
         len: s.len,
@@ -119,14 +136,14 @@ fn held_state(free: ChainTime, s: ExternalsReaderState) -> ReaderState
     }
 }
 
-fn held_reader(free: ChainTime, r: ExternalsReader) -> Reader
-    ensures { λ q. ⌜ q ≡ heldReader free r ⌝ }
+fn held_reader(unset: ChainTime, r: ExternalsReader) -> Reader
+    ensures { λ q. ⌜ q ≡ heldReader unset r ⌝ }
 {
     let shard = r.for_shard_id;
     let time = r.next_chain_time;
     let params = r.msgs_exec_params;
     let limits = r.buffer_limits_by_partitions;
-    let state = held_state(free, r.reader_state);
+    let state = held_state(unset, r.reader_state);
     Reader {
         for_shard_id: shard,
         block_seqno: r.block_seqno,
@@ -147,8 +164,8 @@ pub(crate) fn left_reader(was: Reader, number: u8, r: ExternalsReader) -> Reader
     }
     let state = was.reader_state;
     let saved = state.last_read_to_anchor_chain_time;
-    let free = saved.time;
-    held_reader(free, r)
+    let unset = saved.time;
+    held_reader(unset, r)
 }
 
 pub(crate) fn after(was: Reader, d: ReaderDone) -> ReaderAfter

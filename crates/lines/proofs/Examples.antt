@@ -1,12 +1,22 @@
--- Document 01's example, line by line.
+-- Document 01's example, line by line, with ticket 7's `free`.
 use Prim.Native.Nat.{ℕ}
 use mathlib.Core.Path.{_≡_, refl}
 use mathlib.Core.Bool.{true, false}
 use mathlib.Core.List.{[], _∷_}
 use Rattle.rows.specs.Rows.{word, numAt}
 use Rattle.range_rules.specs.declared.ExternalsRangeReaderState.{ExternalsRangeReaderState}
+use Rattle.reader_rules.specs.declared.LastFree.the-variants.{Nothing, Places}
 use Rattle.text.specs.Shown.{places, decimal, spaced, line}
-use Rattle.lines.specs.Lines.{entryLine, rangeLine, endLine}
+use Rattle.lines.specs.Lines.{freeLine, entryLine, rangeLine, endLine}
+
+-- free 0
+pub free-line : freeLine (Places 0) ≡ 102 ∷ 114 ∷ 101 ∷ 101 ∷ 32 ∷ 48 ∷ 10 ∷ []
+unfolding freeLine line spaced decimal places
+free-line = refl
+
+pub no-range-read-has-no-free-line : freeLine Nothing ≡ []
+unfolding freeLine
+no-range-read-has-no-free-line = refl
 
 -- add 5 0 1 1 1000
 pub add-line : entryLine (5 ∷ 0 ∷ 0 ∷ 0 ∷ 0 ∷ 0 ∷ 1 ∷ 0 ∷ 0 ∷ 0 ∷ 1 ∷ 0 ∷ 0 ∷ 0 ∷ 0 ∷ 0 ∷ 0 ∷ 0 ∷ 232 ∷ 3 ∷ 0 ∷ 0 ∷ 0 ∷ 0 ∷ 0 ∷ 0 ∷ [])

@@ -1,7 +1,8 @@
--- The turns of the loops over entries and ranges: what is left to show after a turn is what was left before it.
+-- The two cases of the free places; the turns of the loops over entries and ranges: what is left to show after a turn
+-- is what was left before it.
 use Prim.Native.Nat.{ℕ, zero, suc, _+_, _-_, _≤_, _<_}
-use mathlib.Core.Path.{_≡_}
-use mathlib.Core.List.{List}
+use mathlib.Core.Path.{_≡_, sym}
+use mathlib.Core.List.{List, [], _∷_}
 use native.Mathlib.Omega.{arith}
 use native.Mathlib.Numerals.{add-one}
 use lib.ListN.{length, take, drop, getD, length-take, drop-of-length-le}
@@ -9,10 +10,23 @@ use lib.Seq.{drop-cons, getD-take}
 use Rattle.rows.specs.Rows.{part, rows}
 use Rattle.rows.proofs.Laws.{rows-cons}
 use Rattle.range_rules.specs.declared.ExternalsRangeReaderState.{ExternalsRangeReaderState}
-use Rattle.text.specs.Shown.{Text, show}
+use Rattle.reader_rules.specs.declared.LastFree.{LastFree}
+use Rattle.reader_rules.specs.declared.LastFree.the-variants.{Nothing, Places}
+use Rattle.text.specs.Shown.{Text, show, line}
 use Rattle.text.proofs.Laws.{show-on, show-nothing}
-use Rattle.lines.specs.Lines.{entryLine, entryLines, rangeLine, rangeLines}
+use Rattle.lines.specs.Lines.{freeLine, entryLine, entryLines, rangeLine, rangeLines}
 
+-- ---- the free places
+module _ (f : LastFree) (p : Text) where
+  pub free-none : f ≡ Nothing → p ≡ show (freeLine f) p
+  unfolding freeLine
+  free-none e = rw e (sym (show-nothing p))
+
+  pub free-some : (n : ℕ) (q : Text) → f ≡ Places n → q ≡ show (line (102 ∷ 114 ∷ 101 ∷ 101 ∷ []) (n ∷ [])) p → q ≡ show (freeLine f) p
+  unfolding freeLine
+  free-some n q e h = rw e h
+
+-- ---- the loops
 pub entries-turn : (l : List ℕ) (at left : ℕ) (p q : Text) → 0 < left → q ≡ show (entryLine (take (at + 26 - at) (drop at l))) p
     → show (entryLines (rows 26 (left - 1) (drop (at + 26) l))) q ≡ show (entryLines (rows 26 left (drop at l))) p
 unfolding entryLines

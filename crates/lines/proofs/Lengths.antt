@@ -6,8 +6,15 @@ use lib.ListN.{length, length-append}
 use Rattle.rows.specs.Rows.{pick, numAt}
 use Rattle.anchors_cache.specs.declared.AnchorsCache.{AnchorsCache}
 use Rattle.range_rules.specs.declared.ExternalsRangeReaderState.{ExternalsRangeReaderState}
+use Rattle.reader_rules.specs.declared.LastFree.{LastFree}
+use Rattle.reader_rules.specs.declared.LastFree.the-variants.{Nothing, Places}
 use Rattle.text.proofs.Lengths.{line-length}
-use Rattle.lines.specs.Lines.{entryLine, entryLines, rangeLine, rangeLines, badLine, endLine}
+use Rattle.lines.specs.Lines.{freeLine, entryLine, entryLines, rangeLine, rangeLines, badLine, endLine}
+
+pub free-line-length : (f : LastFree) → length (freeLine f) ≤ 26
+unfolding freeLine
+free-line-length Nothing = omega arith
+free-line-length (Places n) = line-length (102 ∷ 114 ∷ 101 ∷ 101 ∷ []) (n ∷ [])
 
 pub entry-line-length : (e : List ℕ) → length (entryLine e) ≤ 109
 unfolding entryLine

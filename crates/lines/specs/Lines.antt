@@ -1,10 +1,18 @@
--- The text of document 01's lines ("Session program").
+-- The text of document 01's lines ("Session program"), and of ticket 7's `free`.
 use Prim.Native.Nat.{ℕ}
 use mathlib.Core.List.{List, [], _∷_, _++_}
 use Rattle.rows.specs.Rows.{pick, numAt}
 use Rattle.anchors_cache.specs.declared.AnchorsCache.{AnchorsCache}
 use Rattle.range_rules.specs.declared.ExternalsRangeReaderState.{ExternalsRangeReaderState}
+use Rattle.reader_rules.specs.declared.LastFree.{LastFree}
+use Rattle.reader_rules.specs.declared.LastFree.the-variants.{Nothing, Places}
 use Rattle.text.specs.Shown.{line}
+
+-- `free`, of document 02's ticket 7: the free places that the last range read reported; "is left out if no range was
+-- read"
+unfoldable pub freeLine : LastFree → List ℕ
+freeLine Nothing = []
+freeLine (Places n) = line (102 ∷ 114 ∷ 101 ∷ 101 ∷ []) (n ∷ [])
 
 -- `add`: an output entry's fields
 unfoldable pub entryLine : List ℕ → List ℕ

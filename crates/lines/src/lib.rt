@@ -3,13 +3,16 @@ ghost use mathlib.Core.Path.{_≡_};
 ghost use lib.ListN.{take};
 ghost use Rattle.rows.specs.Rows.{pick, wholeRows};
 ghost use Rattle.text.specs.Shown.{show};
-ghost use Rattle.lines.specs.Lines.{entryLine, entryLines, rangeLine, rangeLines, badLine, endLine};
+ghost use Rattle.lines.specs.Lines.{freeLine, entryLine, entryLines, rangeLine, rangeLines, badLine, endLine};
 ghost use Rattle.range_rules.specs.Rules.{entryLen};
 use anchors_cache::AnchorsCache;
 use range_rules::ENTRY_LEN;
 use range_rules::ExternalsRangeReaderState;
 use reader_rules::ExternalsReaderState;
+use reader_rules::LastFree;
 use reader_rules::MAX_RANGES;
+
+const FREE: [u8; 4] = *b"free";
 
 const ADD: [u8; 3] = *b"add";
 
@@ -18,6 +21,16 @@ const RANGE: [u8; 5] = *b"range";
 const BAD: [u8; 3] = *b"bad";
 
 const END: [u8; 3] = *b"end";
+
+// The free places that the last range read reported; no line where none was read.
+pub fn put_free(out: &mut [u8], at: usize, free: LastFree) -> usize
+    ensures { λ r. ⌜ record { at = r; bytes = now (out .exit) } ≡ show (freeLine free) (record { at = at; bytes = now (out .entry) }) ⌝ }
+{
+    let LastFree::Places(places) = free else {
+        return at;
+    };
+    text::put_line(out, at, &FREE, &[places as u64])
+}
 
 // An entry's fields in the order of its bytes: seqno, partition, anchor id, offset, chain time.
 fn put_entry(out: &mut [u8], at: usize, entry: &[u8]) -> usize

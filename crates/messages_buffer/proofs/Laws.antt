@@ -1,4 +1,4 @@
--- Laws of fullness: tables by index, and a count raised by one.
+-- Laws of tables by index, of the questions about them, and of what a changed record keeps.
 use Prim.Native.Nat.{ℕ, suc, zero, _+_, _≤_, _<_}
 use mathlib.Core.Path.{_≡_, refl, sym, ap, _∙_}
 use mathlib.Core.Bool.{Bool, true, false, not, _&&_, _||_}
@@ -8,11 +8,11 @@ use native.Mathlib.Numerals.{add-one}
 use lib.Dec.{eqb, leb}
 use lib.ListN.{length, getD, drop, set, drop-of-length-le}
 use lib.Seq.{drop-cons}
-use borrow.Author.Tests.{ne-eqb, not-true, not-false, leb-true, leb-false, le-leb}
+use borrow.Author.Tests.{ne-eqb, not-true, leb-true, le-leb}
 use Rattle.rows.specs.Rows.{pick}
 use Rattle.rows.proofs.Laws.{and-true, pick-yes, pick-no, yes-later, or-later}
 use Rattle.messages_buffer.specs.declared.ExternalsPartitionRangeReaderState.{ExternalsPartitionRangeReaderState}
-use Rattle.messages_buffer.specs.Fullness.{bufferCap, noLimit, noPartition, noBuffer, oneMore, limitFits, countFits, hasLimit, every, Buffer, buffers, hasRoom, limited, isFull, fullPartition, rangeFull, limitsNumber, partitionsNumber, limitedNumber, firstNo, fillNumber, fillState, allLimited}
+use Rattle.messages_buffer.specs.Fullness.{bufferCap, noLimit, noPartition, noBuffer, limitFits, countFits, hasLimit, every, Buffer, buffers, limited, rangeFree, limitsNumber, partitionsNumber, limitedNumber, firstNo, fillNumber, fillState, allLimited}
 
 -- ---- one test of each element of a table, by index
 module _ {A : Type 0} (f : A → Bool) (d : A) (l : List A) where
@@ -35,11 +35,6 @@ unfolding every
 every-each f d [] e i h = absurd (omega arith)
 every-each f d (x ∷ l) e zero h = and-true (f x) (every f l) e .0
 every-each f d (x ∷ l) e (suc i) h = every-each f d l (and-true (f x) (every f l) e .1) i (omega arith)
-
-each-every : {A : Type 0} (f : A → Bool) (d : A) (l : List A) → ((i : ℕ) → i < length l → f (getD l i d) ≡ true) → every f l ≡ true
-unfolding every
-each-every f d [] h = refl
-each-every f d (x ∷ l) h = rw (h 0 (omega arith)) (each-every f d l (λ i g. h (suc i) (omega arith)))
 
 -- where every element passed, the one that is put in decides
 every-set : {A : Type 0} (f : A → Bool) (l : List A) (i : ℕ) (x : A) → every f l ≡ true → i < length l → every f (set l i x) ≡ f x
@@ -88,9 +83,6 @@ module _ (f : Buffer → Bool) (ls : List ℕ) (ps : List ExternalsPartitionRang
   buffers-each : every f (buffers ls ps) ≡ true → (i : ℕ) → i < length ls → f (record { limit = getD ls i 0; partition = getD ps i noPartition }) ≡ true
   buffers-each e i h = sym (test-at i h) ∙ every-each f noBuffer (buffers ls ps) e i (inside i h)
 
-  each-buffer : ((i : ℕ) → i < length ls → f (record { limit = getD ls i 0; partition = getD ps i noPartition }) ≡ true) → every f (buffers ls ps) ≡ true
-  each-buffer h = each-every f noBuffer (buffers ls ps) (λ i g. let k : i < length ls = rw (buffers-length ls ps same) at g in test-at i k ∙ h i k)
-
   buffers-put : every f (buffers ls ps) ≡ true → (i : ℕ) (r : ExternalsPartitionRangeReaderState) → i < length ls → every f (buffers ls (set ps i r)) ≡ f (record { limit = getD ls i 0; partition = r })
   buffers-put e i r h = rw (buffers-set ls ps i r h) (every-set f (buffers ls ps) i (record { limit = getD ls i 0; partition = r }) e (inside i h))
 
@@ -116,16 +108,16 @@ first-alone zero = refl
 first-alone (suc n) = refl
 
 module _ (ls : List ℕ) (ps : List ExternalsPartitionRangeReaderState) where
-  refused : (n : ℕ) → fillNumber ls ps ≡ n → (n ≡ 0 → ⊥) → record { number = n; full = false } ≡ fillState ls ps
+  refused : (n : ℕ) → fillNumber ls ps ≡ n → (n ≡ 0 → ⊥) → record { number = n; free = 0 } ≡ fillState ls ps
   unfolding fillState
   refused n e h = rw (e, ne-eqb n 0 h)
 
-  pub refused-by-limits : (n : ℕ) → n ≡ limitsNumber ls → (n ≡ 0 → ⊥) → record { number = n; full = false } ≡ fillState ls ps
+  pub refused-by-limits : (n : ℕ) → n ≡ limitsNumber ls → (n ≡ 0 → ⊥) → record { number = n; free = 0 } ≡ fillState ls ps
   unfolding fillNumber
   refused-by-limits n e h = refused n (rw (sym e) (first-no n _ h)) h
 
   module _ (limits-fit : limitsNumber ls ≡ 0) where
-    pub refused-by-counts : (n : ℕ) → n ≡ partitionsNumber ps → (n ≡ 0 → ⊥) → record { number = n; full = false } ≡ fillState ls ps
+    pub refused-by-counts : (n : ℕ) → n ≡ partitionsNumber ps → (n ≡ 0 → ⊥) → record { number = n; free = 0 } ≡ fillState ls ps
     unfolding fillNumber
     refused-by-counts n e h = refused n (first-yes _ _ limits-fit ∙ rw (sym e) (first-no n _ h)) h
 
@@ -134,47 +126,12 @@ module _ (ls : List ℕ) (ps : List ExternalsPartitionRangeReaderState) where
       unfolding fillNumber limitedNumber
       last-question = first-yes _ _ limits-fit ∙ (first-yes _ _ counts-fit ∙ first-alone (pick (allLimited ls ps) 0 10))
 
-      pub refused-without-limit : allLimited ls ps ≡ false → record { number = 10; full = false } ≡ fillState ls ps
+      pub refused-without-limit : allLimited ls ps ≡ false → record { number = 10; free = 0 } ≡ fillState ls ps
       refused-without-limit e = refused 10 (last-question ∙ pick-no (allLimited ls ps) 0 10 e) (λ q. omega arith)
 
-      pub answered : allLimited ls ps ≡ true → record { number = 0; full = rangeFull ls ps } ≡ fillState ls ps
+      pub answered : allLimited ls ps ≡ true → record { number = 0; free = rangeFree ls ps } ≡ fillState ls ps
       unfolding fillState
       answered e = rw (last-question ∙ pick-yes (allLimited ls ps) 0 10 e)
-
--- ---- a range's fullness by index
-not-not : (b : Bool) → not (not b) ≡ b
-not-not true = refl
-not-not false = refl
-
-module _ (ls : List ℕ) (ps : List ExternalsPartitionRangeReaderState) (same : length ls ≡ length ps) where
-  pub no-partition-full : rangeFull ls ps ≡ false → (i : ℕ) → i < length ls → fullPartition (getD ls i 0) (getD ps i noPartition) ≡ false
-  unfolding rangeFull
-  no-partition-full e i h = not-true _ (buffers-each hasRoom ls ps same (not-false _ e) i h)
-
-  pub range-not-full : ((i : ℕ) → i < length ls → fullPartition (getD ls i 0) (getD ps i noPartition) ≡ false) → rangeFull ls ps ≡ false
-  unfolding rangeFull
-  range-not-full h = ap not (each-buffer hasRoom ls ps same (λ i g. ap not (h i g)))
-
-  pub range-full : (i : ℕ) → i < length ls → fullPartition (getD ls i 0) (getD ps i noPartition) ≡ true → rangeFull ls ps ≡ true
-  range-full i h e = go (rangeFull ls ps) refl
-    where
-      go : (b : Bool) → rangeFull ls ps ≡ b → b ≡ true
-      go true q = refl
-      go false q = sym (no-partition-full q i h) ∙ e
-
-  -- where no partition was full and one record is changed, it alone decides
-  pub changed-full : rangeFull ls ps ≡ false → (i : ℕ) (r : ExternalsPartitionRangeReaderState) → i < length ls → rangeFull ls (set ps i r) ≡ fullPartition (getD ls i 0) r
-  unfolding rangeFull
-  changed-full e i r h = ap not (buffers-put hasRoom ls ps same (not-false _ e) i r h) ∙ not-not _
-
-  pub one-more-full : rangeFull ls ps ≡ false → (i : ℕ) → i < length ls → getD ps i noPartition .present ≡ true
-      → rangeFull ls (set ps i (oneMore (getD ps i noPartition))) ≡ isFull (getD ps i noPartition .count + 1) (getD ls i 0)
-  one-more-full e i h p = changed-full e i (oneMore (getD ps i noPartition)) h ∙ ap (λ (b : Bool). b && isFull (getD ps i noPartition .count + 1) (getD ls i 0)) p
-
--- a buffer that is not full takes one more within its limit
-pub room-left : (count limit : ℕ) → isFull count limit ≡ false → count + 1 ≤ limit
-unfolding isFull
-room-left count limit e = let h = leb-false limit count e in omega arith
 
 -- ---- what the questions give, and what a changed record keeps
 -- questions 4, 5 and 10 are answered "yes"

@@ -1,15 +1,23 @@
--- Fullness of buffers, and the questions that come before it.
-use Prim.Native.Nat.{ℕ, zero, suc, _+_}
+-- Free places of buffers, and the questions that come before them.
+use Prim.Native.Nat.{ℕ, zero, suc, _+_, _-_}
 use mathlib.Core.Bool.{Bool, true, false, not, _&&_, _||_}
 use mathlib.Core.List.{List, [], _∷_}
-use lib.Dec.{leb, eqb}
+use lib.Dec.{ltb, leb, eqb}
 use Rattle.rows.specs.Rows.{pick}
 use Rattle.messages_buffer.specs.declared.ExternalsPartitionRangeReaderState.{ExternalsPartitionRangeReaderState}
 use Rattle.messages_buffer.specs.declared.FillState.{FillState}
 
--- Document 01: "A buffer is full at count at least its limit."
+-- Document 02, ticket 7, free places: "limit less count, or 0 when the count is at or above the limit"
+unfoldable pub freeIn : ℕ → ℕ → ℕ
+freeIn count limit = limit - count
+
+-- "Full now means 0 free."
 unfoldable pub isFull : ℕ → ℕ → Bool
-isFull count limit = leb limit count
+isFull count limit = eqb (freeIn count limit) 0
+
+-- the smaller of two
+abbrev pub least : ℕ → ℕ → ℕ
+least a b = pick (ltb b a) b a
 
 -- Document 01, caps: "1,024 for a buffer's count or limit".
 abbrev pub bufferCap : ℕ
@@ -34,6 +42,10 @@ hasLimit limit p = not (p .present) || not (eqb limit noLimit)
 
 abbrev pub fullPartition : ℕ → ExternalsPartitionRangeReaderState → Bool
 fullPartition limit p = p .present && isFull (p .count) limit
+
+-- the fewest free places so far, with one partition more; an absent one has no buffer
+abbrev pub withFree : ℕ → ExternalsPartitionRangeReaderState → ℕ → ℕ
+withFree limit p free = pick (p .present) (least free (freeIn (p .count) limit)) free
 
 -- a record with one message more in its buffer
 abbrev pub oneMore : ExternalsPartitionRangeReaderState → ExternalsPartitionRangeReaderState
@@ -70,9 +82,13 @@ hasRoom b = not (fullPartition (b .limit) (b .partition))
 unfoldable pub allLimited : List ℕ → List ExternalsPartitionRangeReaderState → Bool
 allLimited limits partitions = every limited (buffers limits partitions)
 
--- Document 01: "Any full buffer of a range stops that range."
-unfoldable pub rangeFull : List ℕ → List ExternalsPartitionRangeReaderState → Bool
-rangeFull limits partitions = not (every hasRoom (buffers limits partitions))
+unfoldable pub smallest : List Buffer → ℕ
+smallest [] = bufferCap
+smallest (b ∷ l) = withFree (b .limit) (b .partition) (smallest l)
+
+-- Document 02, ticket 7: "The range check answers the smallest over its partitions, or 1,024 if the range has none."
+unfoldable pub rangeFree : List ℕ → List ExternalsPartitionRangeReaderState → ℕ
+rangeFree limits partitions = smallest (buffers limits partitions)
 
 -- ---- numbers
 unfoldable pub limitsNumber : List ℕ → ℕ
@@ -93,9 +109,9 @@ firstNo (suc n ∷ l) = suc n
 unfoldable pub fillNumber : List ℕ → List ExternalsPartitionRangeReaderState → ℕ
 fillNumber limits partitions = firstNo (limitsNumber limits ∷ partitionsNumber partitions ∷ limitedNumber limits partitions ∷ [])
 
--- what the range's fullness call answers
+-- what the range check answers
 unfoldable pub fillState : List ℕ → List ExternalsPartitionRangeReaderState → FillState
 fillState limits partitions = record {
   number = fillNumber limits partitions;
-  full = eqb (fillNumber limits partitions) 0 && rangeFull limits partitions;
+  free = pick (eqb (fillNumber limits partitions) 0) (rangeFree limits partitions) 0;
 }

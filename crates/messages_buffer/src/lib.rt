@@ -1,6 +1,7 @@
-// Fullness of buffers, by count. Messages themselves stay with the host; a buffer is its count.
+// Free places of buffers: a buffer is full where it has none. Messages themselves stay with the host; a buffer is its
+// count.
 ghost use mathlib.Core.Path.{_≡_};
-ghost use Rattle.messages_buffer.specs.Fullness.{isFull, limitFits, countFits, hasLimit, fullPartition, limitsNumber, partitionsNumber, allLimited, rangeFull, fillState};
+ghost use Rattle.messages_buffer.specs.Fullness.{freeIn, least, withFree, limitFits, countFits, hasLimit, limitsNumber, partitionsNumber, allLimited, rangeFree, fillState};
 
 // The most that a buffer's count or limit may be.
 pub const BUFFER_CAP: u32 = 1024;
@@ -25,18 +26,32 @@ pub const NO_PARTITION: ExternalsPartitionRangeReaderState = ExternalsPartitionR
     present: false,
 };
 
-// Number 0 and whether any buffer of the range is full, or the number of the question that was answered "no".
+// Number 0 and the fewest free places of a buffer of the range, or the number of the question that was answered "no".
+#[repr(C)]
 pub struct FillState {
     pub number: u8,
-    pub full: bool,
+    pub free: u16,
 }
 
-// Whether one buffer is full.
-pub fn check_is_filled(count: u32, limit: u16) -> bool
-    ensures { λ r. ⌜ r ≡ isFull count limit ⌝ }
+// How many messages more one buffer takes: 0 where it is full.
+pub fn check_is_filled(count: u32, limit: u16) -> u16
+    ensures { λ r. ⌜ r ≡ freeIn count limit ⌝ }
 {
     let most = limit as u32;
-    most <= count
+    if most <= count {
+        return 0;
+    }
+    (most - count) as u16
+}
+
+// The smaller of two numbers of free places.
+pub fn least(a: u16, b: u16) -> u16
+    ensures { λ r. ⌜ r ≡ least a b ⌝ }
+{
+    if b < a {
+        return b;
+    }
+    a
 }
 
 fn limit_fits(limit: u16) -> bool
@@ -67,13 +82,14 @@ fn has_limit(limit: u16, partition: ExternalsPartitionRangeReaderState) -> bool
     limit != NO_LIMIT
 }
 
-fn is_full_partition(limit: u16, partition: ExternalsPartitionRangeReaderState) -> bool
-    ensures { λ r. ⌜ r ≡ fullPartition limit partition ⌝ }
+// The fewest so far, with one partition more; an absent one has no buffer.
+fn with_free(limit: u16, partition: ExternalsPartitionRangeReaderState, free: u16) -> u16
+    ensures { λ r. ⌜ r ≡ withFree limit partition free ⌝ }
 {
     if !partition.present {
-        return false;
+        return free;
     }
-    check_is_filled(partition.count, limit)
+    least(free, check_is_filled(partition.count, limit))
 }
 
 // Question 4 of the limits: 0 or 4.
@@ -119,21 +135,20 @@ fn all_limited(limits: [u16; 8], partitions: [ExternalsPartitionRangeReaderState
     true
 }
 
-fn any_full(limits: [u16; 8], partitions: [ExternalsPartitionRangeReaderState; 8]) -> bool
-    ensures { λ r. ⌜ r ≡ rangeFull limits partitions ⌝ }
+fn range_free(limits: [u16; 8], partitions: [ExternalsPartitionRangeReaderState; 8]) -> u16
+    ensures { λ r. ⌜ r ≡ rangeFree limits partitions ⌝ }
 {
+    let mut free = BUFFER_CAP as u16;
     let mut i = 0;
     while i < 8 {
         let p = partitions[i];
-        if is_full_partition(limits[i], p) {
-            return true;
-        }
+        free = with_free(limits[i], p, free);
         i += 1;
     }
-    false
+    free
 }
 
-// Whether any buffer of a range is full; questions 4, 5 and 10 come first.
+// The fewest free places of a range's buffers, 1,024 where it has none; questions 4, 5 and 10 come first.
 pub fn get_max_buffers_fill_state(
     limits: [u16; 8],
     partitions: [ExternalsPartitionRangeReaderState; 8],
@@ -144,24 +159,24 @@ pub fn get_max_buffers_fill_state(
     if of_limits != 0 {
         return FillState {
             number: of_limits,
-            full: false,
+            free: 0,
         };
     }
     let of_partitions = check_partitions(partitions);
     if of_partitions != 0 {
         return FillState {
             number: of_partitions,
-            full: false,
+            free: 0,
         };
     }
     if !all_limited(limits, partitions) {
         return FillState {
             number: 10,
-            full: false,
+            free: 0,
         };
     }
     FillState {
         number: 0,
-        full: any_full(limits, partitions),
+        free: range_free(limits, partitions),
     }
 }

@@ -11,6 +11,7 @@ use range_rules::ReadCounts;
 use range_rules::ReadNextExternalsMode;
 use reader_rules::ExternalsReader;
 use reader_rules::GetNextMessageGroupMode;
+use reader_rules::LastFree;
 use reader_rules::MAX_RANGES;
 
 // How many bytes of the message area, of the routes and of an output of 26,649 bytes are lent.
@@ -27,12 +28,12 @@ pub struct Answered {
     pub cache: AnchorsCacheTransaction,
 }
 
-// The answer of a read, of one range or of all; only one range's tells the last chain time and fullness.
+// The answer of a read, of one range or of all; only one range's tells the last chain time.
 struct ReadDone {
     number: u8,
     used: usize,
     last: LastChainTime,
-    full: bool,
+    free: LastFree,
     counts: ReadCounts,
     reader: ExternalsReader,
     cache: AnchorsCacheTransaction,
@@ -69,11 +70,12 @@ fn refused(number: u8, reader: ExternalsReader, t: AnchorsCacheTransaction) -> R
         buffered: zeros,
     };
     let last = LastChainTime::Nothing;
+    let free = LastFree::Nothing;
     ReadDone {
         number: number,
         used: 0,
         last: last,
-        full: false,
+        free: free,
         counts: counts,
         reader: reader,
         cache: t,
@@ -128,11 +130,12 @@ fn after_one(reader: ExternalsReader, r: ReadExternals) -> ReadDone {
     let counts = r.counts;
     let cache = r.state;
     let after = given::with_range(reader, range);
+    let free = LastFree::Places(r.free);
     ReadDone {
         number: r.number,
         used: r.used,
         last: last,
-        full: r.full,
+        free: free,
         counts: counts,
         reader: after,
         cache: cache,
@@ -174,11 +177,12 @@ fn read_all(
     let counts = r.counts;
     let after = r.reader;
     let cache = r.state;
+    let free = r.free;
     ReadDone {
         number: r.number,
         used: r.used,
         last: last,
-        full: false,
+        free: free,
         counts: counts,
         reader: after,
         cache: cache,
@@ -286,14 +290,22 @@ fn put_entries(out: &mut [u8], at: usize, output: &[u8], used: usize) -> usize
     lines::put_entries(out, at, &output[0..used])
 }
 
+fn places(free: LastFree) -> u64 {
+    let LastFree::Places(n) = free else {
+        return 0;
+    };
+    n as u64
+}
+
 fn put_one(out: &mut [u8], at: usize, output: &[u8], r: ReadDone) -> usize
     ensures { λ s. ⌜ Puts (record { at = at; bytes = now (out .entry) }) (record { at = s; bytes = now (out .exit) }) ⌝ }
 {
     let counts = r.counts;
     let last = r.last;
+    let free = r.free;
     let a = text::put(&mut *out, at, b"answer");
     let b = shown::put_last(&mut *out, a, last);
-    let c = text::put_line(&mut *out, b, b"", &[r.full as u64]);
+    let c = text::put_line(&mut *out, b, b"", &[places(free)]);
     let d = put_counts(&mut *out, c, counts);
     put_entries(out, d, output, r.used)
 }
@@ -303,9 +315,11 @@ fn put_all(out: &mut [u8], at: usize, output: &[u8], r: ReadDone) -> usize
 {
     let counts = r.counts;
     let reader = r.reader;
-    let a = put_entries(&mut *out, at, output, r.used);
-    let b = put_counts(&mut *out, a, counts);
-    lines::put_ranges(out, b, reader.reader_state)
+    let free = r.free;
+    let a = lines::put_free(&mut *out, at, free);
+    let b = put_entries(&mut *out, a, output, r.used);
+    let c = put_counts(&mut *out, b, counts);
+    lines::put_ranges(out, c, reader.reader_state)
 }
 
 // One range's answer, or that of all ranges; a refused read has none.

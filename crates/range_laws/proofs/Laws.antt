@@ -9,7 +9,7 @@ use lib.Seq.{sets}
 use Rattle.rows.specs.Rows.{pick}
 use Rattle.ext_types.specs.declared.Seconds.{Seconds}
 use Rattle.shard_ident.specs.declared.ShardIdent.{ShardIdent}
-use Rattle.messages_buffer.specs.Fullness.{rangeFull, firstNo}
+use Rattle.messages_buffer.specs.Fullness.{rangeFree, firstNo}
 use Rattle.anchors_cache.specs.declared.AnchorsCacheTransaction.{AnchorsCacheTransaction}
 use Rattle.anchors_cache.specs.declared.AnchorsCache.{AnchorsCache}
 use Rattle.cache_rules.specs.Rules.{Cache}
@@ -42,19 +42,19 @@ module _ (tables area : List ℕ) (t : AnchorsCacheTransaction) (shard : ShardId
       go true = (s .value .pops, refl)
       go false = (0, refl)
 
-  -- also where a message came last, or none was read
-  pub the-fullness-answered-is-that-of-the-range-left : readCall tables area t shard routes limits processed timeout mode range out .answer .number ≡ 0
-      → readCall tables area t shard routes limits processed timeout mode range out .answer .full ≡ rangeFull limits (readCall tables area t shard routes limits processed timeout mode range out .answer .range .«by_partitions»)
-  the-fullness-answered-is-that-of-the-range-left e =
+  -- Document 02, ticket 7: also where a message came last, or none was read, or the Rust looked at no buffer
+  pub a-read-reports-the-free-places-as-they-stand-at-its-end : readCall tables area t shard routes limits processed timeout mode range out .answer .number ≡ 0
+      → readCall tables area t shard routes limits processed timeout mode range out .answer .free ≡ rangeFree limits (readCall tables area t shard routes limits processed timeout mode range out .answer .range .«by_partitions»)
+  a-read-reports-the-free-places-as-they-stand-at-its-end e =
       let h = a-read-with-number-0-does-the-six-steps tables area t shard routes limits processed timeout mode range out e in
-      let k = steps-kept tables area t shard routes limits processed timeout mode range (length out) (h .asked) .within .full in
-      ap (λ (q : ReadResult). q .answer .full) (h .done) ∙ (k ∙ sym (ap (λ (q : ReadResult). rangeFull limits (q .answer .range .«by_partitions»)) (h .done)))
+      let k = steps-kept tables area t shard routes limits processed timeout mode range (length out) (h .asked) .within .free in
+      ap (λ (q : ReadResult). q .answer .free) (h .done) ∙ (k ∙ sym (ap (λ (q : ReadResult). rangeFree limits (q .answer .range .«by_partitions»)) (h .done)))
 
-  pub a-refused-read-tells-no-time-no-fullness-no-pops-and-no-bytes : (readCall tables area t shard routes limits processed timeout mode range out .answer .number ≡ 0 → ⊥)
-      → let a = readCall tables area t shard routes limits processed timeout mode range out .answer in (a .«last_chain_time» ≡ Nothing) × (a .full ≡ false) × (a .pops ≡ 0) × (a .used ≡ 0)
-  a-refused-read-tells-no-time-no-fullness-no-pops-and-no-bytes p =
+  pub a-refused-read-tells-no-time-no-free-places-no-pops-and-no-bytes : (readCall tables area t shard routes limits processed timeout mode range out .answer .number ≡ 0 → ⊥)
+      → let a = readCall tables area t shard routes limits processed timeout mode range out .answer in (a .«last_chain_time» ≡ Nothing) × (a .free ≡ 0) × (a .pops ≡ 0) × (a .used ≡ 0)
+  a-refused-read-tells-no-time-no-free-places-no-pops-and-no-bytes p =
       let e = a-refused-read-gives-only-its-number tables area t shard routes limits processed timeout mode range out p in
-      (ap (λ (q : ReadResult). q .answer .«last_chain_time») e, ap (λ (q : ReadResult). q .answer .full) e, ap (λ (q : ReadResult). q .answer .pops) e, ap (λ (q : ReadResult). q .answer .used) e)
+      (ap (λ (q : ReadResult). q .answer .«last_chain_time») e, ap (λ (q : ReadResult). q .answer .free) e, ap (λ (q : ReadResult). q .answer .pops) e, ap (λ (q : ReadResult). q .answer .used) e)
 
 -- ---- free bytes
 module _ (tables area tables′ area′ : List ℕ) (t : AnchorsCacheTransaction) (g : Agree tables area tables′ area′ t)
@@ -66,7 +66,7 @@ module _ (tables area tables′ area′ : List ℕ) (t : AnchorsCacheTransaction
   pub steps-same : (room : ℕ) → rangeRead tables area t shard routes limits processed timeout mode range room ≡ rangeRead tables′ area′ t shard routes limits processed timeout mode range room
   unfolding rangeRead
   steps-same room =
-      ap (λ (v : Cache). anchorsRead (contextOf shard limits processed timeout mode range room) routes (v .anchors) (silent (entryOf range (rangeFull limits (range .«by_partitions»))))) (g .now)
+      ap (λ (v : Cache). anchorsRead (contextOf shard limits processed timeout mode range room) routes (v .anchors) (silent (entryOf range (rangeFree limits (range .«by_partitions»))))) (g .now)
 
   -- two tables and two areas that agree on what is cached or restorable by a rollback give the same number, answer,
   -- range, transaction and output bytes

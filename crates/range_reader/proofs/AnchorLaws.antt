@@ -23,7 +23,7 @@ use Rattle.anchors_cache.proofs.Laws.{anchors-cons, anchors-none, total-more}
 use Rattle.range_rules.specs.declared.Context.{Context}
 use Rattle.range_rules.specs.declared.Walk.{Walk}
 use Rattle.range_rules.specs.declared.RangeRead.{RangeRead}
-use Rattle.range_rules.specs.Rules.{Outcome, silent, followed, endReached, ends, stopped, refusedWith, messageRead, messagesRead, expiredOne, expiredOver, fullyRead, popped, looked, expired, leave, afterPop, isWhole, finished, unread, walked, anchorRead, anchorsRead}
+use Rattle.range_rules.specs.Rules.{Outcome, silent, followed, endReached, ends, full, stopped, refusedWith, messageRead, messagesRead, expiredOne, expiredOver, fullyRead, popped, looked, expired, leave, afterPop, isWhole, finished, unread, walked, anchorRead, anchorsRead}
 use Rattle.range_rules.specs.Bounds.{Within, Few}
 use Rattle.range_reader.specs.Ready.{Wrote, RangeReady, firstUnread, readOrRefused}
 use Rattle.range_rules.proofs.Counts.{weaker, within-up, within-refused, message-stepped, expired-one-le}
@@ -44,11 +44,11 @@ module _ (x : Context) (time : ChainTime) (count : ℕ) (w : Walk) (r : RangeRea
     finish-end h e = e ∙ rw pe (sym (pick-no _ _ _ zeroed ∙ pick-yes _ _ _ h))
 
     module _ (h : ends (x .mode) (w .place .reached) ≡ false) where
-      pub finish-full : w .buffers .full ≡ true → q ≡ leave w time pops (r .«fully_read») true → q ≡ finished x time count w r
+      pub finish-full : full (w .buffers) ≡ true → q ≡ leave w time pops (r .«fully_read») true → q ≡ finished x time count w r
       unfolding finished
       finish-full f e = e ∙ rw pe (sym (pick-no _ _ _ zeroed ∙ (pick-no _ _ _ h ∙ pick-yes _ _ _ f)))
 
-      module _ (f : w .buffers .full ≡ false) where
+      module _ (f : full (w .buffers) ≡ false) where
         pub finish-next : isWhole w count ≡ true → q ≡ leave w time pops (r .«fully_read») false → q ≡ finished x time count w r
         unfolding finished
         finish-next g e = e ∙ rw pe (sym (pick-no _ _ _ zeroed ∙ (pick-no _ _ _ h ∙ (pick-no _ _ _ f ∙ pick-yes _ _ _ g))))
@@ -91,8 +91,8 @@ pop-le : (b : Bool) (pops : ℕ) → afterPop b pops ≤ pops + 1
 pop-le true pops = omega arith
 pop-le false pops = omega arith
 
-left-kept : (x : Context) (k used : ℕ) (time : ChainTime) (s : Outcome Walk) (b full ended : Bool) (pops : ℕ) → Kept x k used s → RangeKept x k used (pops + 1) (record { value = leave (s .value) time (afterPop b pops) full ended; entries = s .entries })
-left-kept x k used time s b full ended pops h = record { within = h .within; used-part = h .used-part; few-pops = pop-le b pops }
+left-kept : (x : Context) (k used : ℕ) (time : ChainTime) (s : Outcome Walk) (b fully ended : Bool) (pops : ℕ) → Kept x k used s → RangeKept x k used (pops + 1) (record { value = leave (s .value) time (afterPop b pops) fully ended; entries = s .entries })
+left-kept x k used time s b fully ended pops h = record { within = h .within; used-part = h .used-part; few-pops = pop-le b pops }
 
 refused-used : (n : ℕ) (w : Walk) → refusedWith n w .buffers .used ≡ w .buffers .used
 unfolding refusedWith
@@ -107,13 +107,13 @@ finished-kept x k used time count s r h =
     let refused : Kept x k used (record { value = refusedWith 11 w; entries = s .entries }) = record { within = within-refused x k w (h .within) 11; used-part = refused-used 11 w ∙ h .used-part } in
     pick-both P (not (eqb (w .number) 0)) _ _ (left-kept x k used time s b (r .«fully_read») true (r .pops) h)
     (pick-both P (ends (x .mode) (w .place .reached)) _ _ (left-kept x k used time s b true true (r .pops) h)
-    (pick-both P (w .buffers .full) _ _ (left-kept x k used time s b (r .«fully_read») true (r .pops) h)
+    (pick-both P (full (w .buffers)) _ _ (left-kept x k used time s b (r .«fully_read») true (r .pops) h)
     (pick-both P b _ _ (left-kept x k used time s b (r .«fully_read») false (r .pops) h)
     (left-kept x k used time (record { value = refusedWith 11 w; entries = s .entries }) b (r .«fully_read») true (r .pops) refused))))
 
 pub within-looked : (x : Context) (k id : ℕ) (w : Walk) → Within x k w → Within x k (looked x id w)
 unfolding looked
-within-looked x k id w h = record { read = h .read; expired = h .expired; buffered = h .buffered; full = h .full }
+within-looked x k id w h = record { read = h .read; expired = h .expired; buffered = h .buffered; free = h .free }
 
 pub looked-used : (x : Context) (id : ℕ) (w : Walk) → looked x id w .buffers .used ≡ w .buffers .used
 unfolding looked
@@ -137,7 +137,7 @@ module _ (x : Context) (routes : List ℕ) (id : ℕ) (time : ChainTime) (l : Li
           read = g .read;
           expired = weaker (expiredOver (x .shard) routes u (w .counts .expired)) (k + length u) (k + length l) (omega arith) (expired-over-le (x .shard) routes u (w .counts .expired) k (within-looked x k id (r .walk) h .expired));
           buffered = g .buffered;
-          full = g .full;
+          free = g .free;
         };
         used-part = looked-used x id (r .walk) ∙ (omega arith);
         few-pops = omega arith;

@@ -1,7 +1,7 @@
 -- The public call, put together from what its parts ensure.
 use Prim.Native.Nat.{ℕ, _-_, _*_}
 use mathlib.Core.Path.{_≡_, refl, sym, ap, _∙_}
-use mathlib.Core.Bool.{Bool, true, false, _&&_}
+use mathlib.Core.Bool.{Bool, true, false}
 use mathlib.Core.List.{List, [], _∷_}
 use native.Mathlib.Omega.{arith}
 use native.Mathlib.Nat.{mul-div-le}
@@ -14,7 +14,7 @@ use Rattle.rows.proofs.Laws.{pick-yes, pick-no, pick-same}
 use Rattle.ext_types.specs.declared.Seconds.{Seconds}
 use Rattle.shard_ident.specs.declared.ShardIdent.{ShardIdent}
 use Rattle.messages_buffer.specs.declared.FillState.{FillState}
-use Rattle.messages_buffer.specs.Fullness.{rangeFull, firstNo}
+use Rattle.messages_buffer.specs.Fullness.{rangeFree, firstNo}
 use Rattle.anchors_cache.specs.declared.AnchorsCacheTransaction.{AnchorsCacheTransaction}
 use Rattle.anchors_cache.specs.declared.Done.{Done}
 use Rattle.cache_rules.specs.Rules.{total, maxMessages}
@@ -49,11 +49,11 @@ module _ (tables area : List ℕ) (t : AnchorsCacheTransaction) (shard : ShardId
   unfolding askedState
   asked-number = ap (λ (s : FillState). s .number) ae
 
-  asked-full : a .number ≡ 0 → a .full ≡ rangeFull limits (range .«by_partitions»)
+  asked-free : a .number ≡ 0 → a .free ≡ rangeFree limits (range .«by_partitions»)
   unfolding askedState
-  asked-full z =
-      ap (λ (s : FillState). s .full) ae
-      ∙ ap (λ (b : Bool). b && rangeFull limits (range .«by_partitions»)) (eq-eqb (askedNumber tables area t shard routes limits range) 0 (sym asked-number ∙ z))
+  asked-free z =
+      ap (λ (s : FillState). s .free) ae
+      ∙ pick-yes _ _ _ (eq-eqb (askedNumber tables area t shard routes limits range) 0 (sym asked-number ∙ z))
 
   module _ (processed : List ProcessedTo) (timeout : Seconds) (mode : ReadNextExternalsMode) (write : Bool) (out : List ℕ) where
     abbrev read : ReadResult
@@ -70,9 +70,9 @@ module _ (tables area : List ℕ) (t : AnchorsCacheTransaction) (shard : ShardId
         let f : n ≡ askedNumber tables area t shard routes limits range = asked-number in
         told write read out q out out (rw (e, sym f, first-no n _ h, ne-eqb n 0 h)) (sym (pick-same write out))
 
-    module _ (z : a .number ≡ 0) (x : Context) (begin : RangeRead) (xe : x ≡ contextOf shard limits processed timeout mode range (length out)) (be : begin ≡ entryOf range (a .full)) where
-      at-entry : begin ≡ entryOf range (rangeFull limits (range .«by_partitions»))
-      at-entry = be ∙ ap (entryOf range) (asked-full z)
+    module _ (z : a .number ≡ 0) (x : Context) (begin : RangeRead) (xe : x ≡ contextOf shard limits processed timeout mode range (length out)) (be : begin ≡ entryOf range (a .free)) where
+      at-entry : begin ≡ entryOf range (rangeFree limits (range .«by_partitions»))
+      at-entry = be ∙ ap (entryOf range) (asked-free z)
 
       pub call-ready : RangeReady tables area (t .cache) routes x begin out
       call-ready =
@@ -85,7 +85,7 @@ module _ (tables area : List ℕ) (t : AnchorsCacheTransaction) (shard : ShardId
             tall = c .tall;
             window = c .in-anchors;
             placed = omega (arith, c .in-area, mul-div-le (length area) 33);
-            few = record { few = c .few; within = record { read = λ i. zeros 8 i k; expired = λ i. zeros 8 i k; buffered = λ i. zeros 8 i k; full = refl } };
+            few = record { few = c .few; within = record { read = λ i. zeros 8 i k; expired = λ i. zeros 8 i k; buffered = λ i. zeros 8 i k; free = refl } };
             pops = refl;
             number = refl;
             used = refl;

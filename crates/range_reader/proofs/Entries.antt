@@ -16,7 +16,7 @@ use Rattle.shard_ident.specs.declared.ShardIdent.{ShardIdent}
 use Rattle.shard_ident.specs.Shard.{isOurs}
 use Rattle.router.specs.Router.{partitionOf, routesNumber}
 use Rattle.router.proofs.Laws.{a-partition-is-at-most-7}
-use Rattle.messages_buffer.specs.Fullness.{noPartition, rangeFull, firstNo}
+use Rattle.messages_buffer.specs.Fullness.{noPartition, rangeFree, firstNo}
 use Rattle.anchors_cache.specs.declared.AnchorsCacheTransaction.{AnchorsCacheTransaction}
 use Rattle.cache_rules.specs.Rules.{Anchor}
 use Rattle.anchors_cache.specs.Tables.{view}
@@ -28,7 +28,7 @@ use Rattle.range_rules.specs.declared.ReadNextExternalsMode.{ReadNextExternalsM
 use Rattle.range_rules.specs.declared.ExternalsRangeReaderState.{ExternalsRangeReaderState}
 use Rattle.range_rules.specs.declared.Verdict.{Verdict}
 use Rattle.range_rules.specs.declared.Verdict.the-variants.{Keep, Buffer, Refuse}
-use Rattle.range_rules.specs.Rules.{Outcome, silent, followed, advanced, ends, stopped, noProcessed, more, refusedWith, readOne, buffered, bufferOne, after, verdictOn, ourRead, messageRead, messagesRead, popped, looked, expiredOver, expired, isWhole, finished, unread, anchorRead, nextRead, anchorsRead, contextOf, entryOf, entryLen}
+use Rattle.range_rules.specs.Rules.{Outcome, silent, followed, advanced, ends, full, stopped, noProcessed, more, refusedWith, readOne, buffered, bufferOne, after, verdictOn, ourRead, messageRead, messagesRead, popped, looked, expiredOver, expired, isWhole, finished, unread, anchorRead, nextRead, anchorsRead, contextOf, entryOf, entryLen}
 use Rattle.range_reader.specs.Calls.{askedNumber, refusedAnswer, doneResult, rangeRead, readCall}
 use Rattle.rows.proofs.Laws.{pick-both}
 use Rattle.range_rules.proofs.Counts.{judge-buffer}
@@ -73,7 +73,7 @@ module _ (x : Context) (w : Walk) (h : Tallied x w) where
   unfolding finished
   finished-tallied time count r =
       let P : RangeRead → Type 0 = λ q. Tallied x (q .walk) in
-      pick-both P (not (eqb (w .number) 0)) _ _ h (pick-both P (ends (x .mode) (w .place .reached)) _ _ h (pick-both P (w .buffers .full) _ _ h (pick-both P (isWhole w count) _ _ h (refused-tallied 11))))
+      pick-both P (not (eqb (w .number) 0)) _ _ h (pick-both P (ends (x .mode) (w .place .reached)) _ _ h (pick-both P (full (w .buffers)) _ _ h (pick-both P (isWhole w count) _ _ h (refused-tallied 11))))
 
   after-tallied : (v : Verdict) (time : ChainTime) (p : ℕ) → p < 8 → (v ≡ Buffer → w .buffers .used + entryLen ≤ x .room) → Tallied x (after v x time p w .value)
   unfolding readOne bufferOne buffered refusedWith
@@ -142,7 +142,7 @@ module _ (tables area : List ℕ) (t : AnchorsCacheTransaction) (shard : ShardId
   unfolding rangeRead sumOf
   steps-tallied sound =
       let x = contextOf shard limits processed timeout mode range (length out) in
-      let r = entryOf range (rangeFull limits (range .«by_partitions»)) in
+      let r = entryOf range (rangeFree limits (range .«by_partitions»)) in
       anchors-tallied x routes sound (view tables area (t .cache) .anchors) (silent r) (record { eight = refl; used = refl; roomy = omega arith })
 
   pub steps-fit : routesNumber routes ≡ 0 → six-steps .value .walk .buffers .used ≤ length out

@@ -11,7 +11,7 @@ use Rattle.rows.specs.Rows.{pick}
 use Rattle.rows.proofs.Laws.{rows-length, pick-both}
 use Rattle.ext_types.specs.declared.Seconds.{Seconds}
 use Rattle.shard_ident.specs.declared.ShardIdent.{ShardIdent}
-use Rattle.messages_buffer.specs.Fullness.{rangeFull, firstNo}
+use Rattle.messages_buffer.specs.Fullness.{rangeFree, firstNo}
 use Rattle.anchors_cache.specs.declared.AnchorsCacheTransaction.{AnchorsCacheTransaction}
 use Rattle.cache_rules.specs.Rules.{Anchor, Row, total, maxAnchors, maxMessages}
 use Rattle.anchors_cache.specs.Tables.{view, withMessages, anchorsOf}
@@ -65,12 +65,12 @@ module _ (tables area : List ℕ) (t : AnchorsCacheTransaction) (shard : ShardId
       let rows = anchorsOf tables (t .cache) in
       let bytes = drop (33 * t .cache .base) area in
       let l = withMessages bytes rows in
-      let r = entryOf range (rangeFull limits (range .«by_partitions»)) in
+      let r = entryOf range (rangeFree limits (range .«by_partitions»)) in
       let n : messagesIn l ≡ total rows = total-messages bytes rows in
       let m : length l ≡ t .cache .len = length-messages bytes rows ∙ anchors-length (t .cache .first) (t .cache .len) tables in
       let f = c .few in
       let i = c .in-anchors in
-      let g = anchors-kept x routes l 0 0 0 (silent r) (record { within = record { read = λ i. zeros 8 i 0; expired = λ i. zeros 8 i 0; buffered = λ i. zeros 8 i 0; full = refl }; used-part = refl; few-pops = omega arith }) in
+      let g = anchors-kept x routes l 0 0 0 (silent r) (record { within = record { read = λ i. zeros 8 i 0; expired = λ i. zeros 8 i 0; buffered = λ i. zeros 8 i 0; free = refl }; used-part = refl; few-pops = omega arith }) in
       record {
         within = within-up x (0 + messagesIn l) (anchorsRead x routes l (silent r) .value .walk) (g .within) maxMessages (omega arith);
         used-part = g .used-part;

@@ -16,8 +16,8 @@ use Rattle.ext_types.specs.declared.ExternalKey.{ExternalKey}
 use Rattle.ext_types.specs.Keys.{keyAbove}
 use Rattle.ext_types.proofs.Laws.{fact-above, above-transitive}
 use Rattle.messages_buffer.specs.declared.ExternalsPartitionRangeReaderState.{ExternalsPartitionRangeReaderState}
-use Rattle.messages_buffer.specs.Fullness.{rangeFull, noPartition}
-use Rattle.messages_buffer.proofs.Laws.{one-more-full}
+use Rattle.messages_buffer.specs.Fullness.{rangeFree, noPartition}
+use Rattle.messages_buffer.proofs.Free.{one-more-free}
 use Rattle.shard_ident.specs.Shard.{isOurs}
 use Rattle.router.specs.Router.{partitionOf}
 use Rattle.range_rules.specs.declared.Context.{Context}
@@ -103,23 +103,23 @@ module _ (x : Context) (start : Walk) where
     pub stopped-locals : start .place .reached ≡ endReached (start .place .key) (x .«saved_end»)
         → stopped x (walk offset b partitions read buffered₁) ≡ stoppedAt (x .mode) (x .«saved_end») (keyAt (start .place .key .«anchor_id») offset) b
     unfolding stopped stoppedAt
-    stopped-locals r = ap (λ (q : Bool). not (eqb (b .number) 0) || (b .full || ends (x .mode) q)) (place-reached (x .«saved_end») (start .place) offset r)
+    stopped-locals r = ap (λ (q : Bool). not (eqb (b .number) 0) || (eqb (b .free) 0 || ends (x .mode) q)) (place-reached (x .«saved_end») (start .place) offset r)
 
     advanced-locals : start .place .key .«msgs_offset» ≤ offset → advanced x (walk offset b partitions read buffered₁) ≡ walk (offset + 1) b partitions read buffered₁
     unfolding advanced
     advanced-locals h =
         let k = place-key (x .«saved_end») (start .place) offset in
-        let f : Place → Walk = λ (p : Place). record { number = b .number; place = p; buffers = record { full = b .full; used = b .used; «by_partitions» = partitions }; counts = record { read = read; expired = start .counts .expired; buffered = buffered₁ } } in
+        let f : Place → Walk = λ (p : Place). record { number = b .number; place = p; buffers = record { free = b .free; used = b .used; «by_partitions» = partitions }; counts = record { read = read; expired = start .counts .expired; buffered = buffered₁ } } in
         ap (λ (key : ExternalKey). f (movedTo (x .«saved_end») (nextKey key) (placeAt (x .«saved_end») (start .place) offset))) k
         ∙ ap f (place-next (x .«saved_end») (start .place) offset h)
 
     -- what a verdict changes in one partition is what it makes of the walk
-    taken-locals : (v : Verdict) (time : ChainTime) (p : ℕ) → length (x .limits) ≡ length partitions → p < length (x .limits) → rangeFull (x .limits) partitions ≡ false → (v ≡ Buffer → getD partitions p noPartition .present ≡ true)
+    taken-locals : (v : Verdict) (time : ChainTime) (p : ℕ) → length (x .limits) ≡ length partitions → p < length (x .limits) → b .free ≡ rangeFree (x .limits) partitions → (v ≡ Buffer → getD partitions p noPartition .present ≡ true)
         → (t : Taken) → t ≡ taken v (getD (x .limits) p 0) (getD partitions p noPartition) b
         → walk offset (t .progress) (set partitions p (t .partition)) (set read p (getD read p 0 + t .read)) (set buffered₁ p (getD buffered₁ p 0 + t .buffered)) ≡ after v x time p (walk offset b partitions read buffered₁) .value
     unfolding taken readOne bufferOne buffered refusedWith
     taken-locals Keep time p l h e f t g = rw (g, set-same partitions p noPartition, none-more buffered₁ p)
-    taken-locals Buffer time p l h e f t g = rw (g, one-more-full (x .limits) partitions l e p h (f refl))
+    taken-locals Buffer time p l h e f t g = rw (g, one-more-free (x .limits) partitions p h (omega arith) (f refl), sym e)
     taken-locals (Refuse n) time p l h e f t g = rw (g, set-same partitions p noPartition, none-more buffered₁ p, none-more read p)
 
   module _ (offset : ℕ) (b : Progress) (partitions : List ExternalsPartitionRangeReaderState) (read buffered₁ : List ℕ) where
@@ -131,7 +131,7 @@ module _ (x : Context) (start : Walk) where
       unfolding messageRead
       other-step i = rw i (wrote-nothing write (b .used) out next _ (sym (advanced-locals offset b partitions read buffered₁ h)))
 
-      module _ (p : ℕ) (ours : isOurs (x .shard) m ≡ true) (pe : p ≡ partitionOf routes m) (l : length (x .limits) ≡ length partitions) (few : p < length (x .limits)) (room : rangeFull (x .limits) partitions ≡ false) where
+      module _ (p : ℕ) (ours : isOurs (x .shard) m ≡ true) (pe : p ≡ partitionOf routes m) (l : length (x .limits) ≡ length partitions) (few : p < length (x .limits)) (free : b .free ≡ rangeFree (x .limits) partitions) where
         abbrev key : ExternalKey
         key = keyAt (start .place .key .«anchor_id») (offset + 1)
 
@@ -156,7 +156,7 @@ module _ (x : Context) (start : Walk) where
         ours-step o t te oe =
             rw (ours, sym pe, advanced-locals offset b partitions read buffered₁ h, same-verdict)
             (record {
-              value = taken-locals (offset + 1) b partitions read buffered₁ verdict time p l few room (λ e. judge-buffer _ _ _ _ e .1) t te;
+              value = taken-locals (offset + 1) b partitions read buffered₁ verdict time p l few free (λ e. judge-buffer _ _ _ _ e .1) t te;
               out = oe ∙ ap (λ (es : List ℕ). pick write (sets out (b .used) es) out) (same-entries verdict);
             })
 
@@ -215,11 +215,8 @@ module _ (x : Context) (routes : List ℕ) (time : ChainTime) (rest : List ℕ) 
       }
 
       module _ (p : ℕ) (i : isOurs (x .shard) (take (at + 33 - at) (drop at rest)) ≡ true) (pe : p ≡ partitionOf routes (take (at + 33 - at) (drop at rest))) (few : p < 8) (l : length (x .limits) ≡ 8) where
-        room : rangeFull (x .limits) partitions ≡ false
-        room = sym (h .turn .within .full) ∙ stopped-full x here goes-on
-
         pub locals-room : getD partitions p noPartition .present ≡ true → getD partitions p noPartition .count + 1 ≤ getD (x .limits) p 0
-        locals-room q = room-in (x .limits) (here .buffers) p l (h .partitions-long) few room q
+        locals-room q = room-in (x .limits) (here .buffers) p l (h .partitions-long) few (ap (λ (n : ℕ). eqb n 0) (sym (h .turn .within .free)) ∙ stopped-full x here goes-on) q
 
         pub locals-ours : (o : List ℕ) (t : Taken) (next : ExternalKey) → next ≡ keyAt (key .«anchor_id») (key .«msgs_offset» + 1)
             → (t ≡ taken (verdictAt (getD (x .processed) p noProcessed) (getD partitions p noPartition) next b (x .room)) (getD (x .limits) p 0) (getD partitions p noPartition) b)
@@ -232,7 +229,7 @@ module _ (x : Context) (routes : List ℕ) (time : ChainTime) (rest : List ℕ) 
             rw k
             (record {
               turn = turn-next x routes time rest n write out₀ start out here at left (h .turn) o _ more goes-on
-                  (ours-step x start (key .«msgs_offset») b partitions read buffered₁ routes time _ write out (h .past) p i pe s (omega arith) room o t (f .0) (f .1));
+                  (ours-step x start (key .«msgs_offset») b partitions read buffered₁ routes time _ write out (h .past) p i pe s (omega arith) (h .turn .within .free) o t (f .0) (f .1));
               anchor = refl;
               past = omega (arith, h .past);
               partitions-long = simp length-set (h .partitions-long);

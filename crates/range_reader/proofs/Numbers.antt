@@ -23,11 +23,11 @@ use Rattle.range_reader.specs.Calls.{askedNumber, askedState}
 use Rattle.cache_rules.specs.Rules.{areaBytes}
 
 module _ (tables area : List ℕ) (t : AnchorsCacheTransaction) (shard : ShardIdent) (routes limits : List ℕ) (range : ExternalsRangeReaderState) where
-  asked-refused : (n : ℕ) (q : FillState) → askedNumber tables area t shard routes limits range ≡ n → (n ≡ 0 → ⊥) → q ≡ record { number = n; full = false } → q ≡ askedState tables area t shard routes limits range
+  asked-refused : (n : ℕ) (q : FillState) → askedNumber tables area t shard routes limits range ≡ n → (n ≡ 0 → ⊥) → q ≡ record { number = n; free = 0 } → q ≡ askedState tables area t shard routes limits range
   unfolding askedState
   asked-refused n q e h g = g ∙ rw (e, ne-eqb n 0 h)
 
-  pub asked-1 : (q : FillState) → length area < areaBytes → q ≡ record { number = 1; full = false } → q ≡ askedState tables area t shard routes limits range
+  pub asked-1 : (q : FillState) → length area < areaBytes → q ≡ record { number = 1; free = 0 } → q ≡ askedState tables area t shard routes limits range
   unfolding askedNumber
   asked-1 q h g = asked-refused 1 q (rw (lt-leb areaBytes (length area) h) (first-no 1 _ (λ e. omega arith))) (λ e. omega arith) g
 
@@ -35,27 +35,27 @@ module _ (tables area : List ℕ) (t : AnchorsCacheTransaction) (shard : ShardId
     one : _≡_ {A = ℕ} (pick (leb areaBytes (length area)) 0 1) 0
     one = pick-yes _ _ _ (le-leb areaBytes (length area) a)
 
-    pub asked-2 : (n : ℕ) (q : FillState) → n ≡ shardNumber shard → (n ≡ 0 → ⊥) → q ≡ record { number = n; full = false } → q ≡ askedState tables area t shard routes limits range
+    pub asked-2 : (n : ℕ) (q : FillState) → n ≡ shardNumber shard → (n ≡ 0 → ⊥) → q ≡ record { number = n; free = 0 } → q ≡ askedState tables area t shard routes limits range
     unfolding askedNumber
     asked-2 n q e h g = asked-refused n q (first-yes _ _ one ∙ rw (sym e) (first-no n _ h)) h g
 
     module _ (b : shardNumber shard ≡ 0) where
-      pub asked-3 : (n : ℕ) (q : FillState) → n ≡ routesNumber routes → (n ≡ 0 → ⊥) → q ≡ record { number = n; full = false } → q ≡ askedState tables area t shard routes limits range
+      pub asked-3 : (n : ℕ) (q : FillState) → n ≡ routesNumber routes → (n ≡ 0 → ⊥) → q ≡ record { number = n; free = 0 } → q ≡ askedState tables area t shard routes limits range
       unfolding askedNumber
       asked-3 n q e h g = asked-refused n q (first-yes _ _ one ∙ (first-yes _ _ b ∙ rw (sym e) (first-no n _ h))) h g
 
       module _ (c : routesNumber routes ≡ 0) where
-        pub asked-4 : (n : ℕ) (q : FillState) → n ≡ limitsNumber limits → (n ≡ 0 → ⊥) → q ≡ record { number = n; full = false } → q ≡ askedState tables area t shard routes limits range
+        pub asked-4 : (n : ℕ) (q : FillState) → n ≡ limitsNumber limits → (n ≡ 0 → ⊥) → q ≡ record { number = n; free = 0 } → q ≡ askedState tables area t shard routes limits range
         unfolding askedNumber
         asked-4 n q e h g = asked-refused n q (first-yes _ _ one ∙ (first-yes _ _ b ∙ (first-yes _ _ c ∙ rw (sym e) (first-no n _ h)))) h g
 
         module _ (d : limitsNumber limits ≡ 0) where
-          pub asked-5 : (n : ℕ) (q : FillState) → n ≡ refusal (length area) tables t → (n ≡ 0 → ⊥) → q ≡ record { number = n; full = false } → q ≡ askedState tables area t shard routes limits range
+          pub asked-5 : (n : ℕ) (q : FillState) → n ≡ refusal (length area) tables t → (n ≡ 0 → ⊥) → q ≡ record { number = n; free = 0 } → q ≡ askedState tables area t shard routes limits range
           unfolding askedNumber
           asked-5 n q e h g = asked-refused n q (first-yes _ _ one ∙ (first-yes _ _ b ∙ (first-yes _ _ c ∙ (first-yes _ _ d ∙ rw (sym e) (first-no n _ h))))) h g
 
           module _ (e5 : refusal (length area) tables t ≡ 0) where
-            pub asked-5b : (n : ℕ) (q : FillState) → n ≡ partitionsNumber (range .«by_partitions») → (n ≡ 0 → ⊥) → q ≡ record { number = n; full = false } → q ≡ askedState tables area t shard routes limits range
+            pub asked-5b : (n : ℕ) (q : FillState) → n ≡ partitionsNumber (range .«by_partitions») → (n ≡ 0 → ⊥) → q ≡ record { number = n; free = 0 } → q ≡ askedState tables area t shard routes limits range
             unfolding askedNumber
             asked-5b n q e h g = asked-refused n q (first-yes _ _ one ∙ (first-yes _ _ b ∙ (first-yes _ _ c ∙ (first-yes _ _ d ∙ (first-yes _ _ e5 ∙ rw (sym e) (first-no n _ h)))))) h g
 
@@ -64,7 +64,7 @@ module _ (tables area : List ℕ) (t : AnchorsCacheTransaction) (shard : ShardId
               unfolding askedNumber
               six = first-yes _ _ one ∙ (first-yes _ _ b ∙ (first-yes _ _ c ∙ (first-yes _ _ d ∙ (first-yes _ _ e5 ∙ first-yes _ _ f))))
 
-              pub asked-9 : (q : FillState) → t .active ≡ false → q ≡ record { number = 9; full = false } → q ≡ askedState tables area t shard routes limits range
+              pub asked-9 : (q : FillState) → t .active ≡ false → q ≡ record { number = 9; free = 0 } → q ≡ askedState tables area t shard routes limits range
               asked-9 q h g =
                   let n : _≡_ {A = ℕ} (pick (t .active) 0 9) 9 = pick-no _ _ _ h in
                   asked-refused 9 q (six ∙ (ap (λ (k : ℕ). firstNo (k ∷ limitedNumber limits (range .«by_partitions») ∷ [])) n ∙ first-no 9 _ (λ e. omega arith))) (λ e. omega arith) g

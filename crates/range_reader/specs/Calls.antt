@@ -1,6 +1,6 @@
 -- What the public call answers, for every argument.
 use Prim.Native.Nat.{ℕ}
-use mathlib.Core.Bool.{Bool, false, _&&_}
+use mathlib.Core.Bool.{Bool}
 use mathlib.Core.List.{List, [], _∷_}
 use lib.Dec.{eqb}
 use lib.ListN.{length}
@@ -10,7 +10,7 @@ use Rattle.range_rules.specs.Rules.{rangeAfter, sixSteps, rangeQuestions, conte
 use Rattle.ext_types.specs.declared.Seconds.{Seconds}
 use Rattle.shard_ident.specs.declared.ShardIdent.{ShardIdent}
 use Rattle.messages_buffer.specs.declared.FillState.{FillState}
-use Rattle.messages_buffer.specs.Fullness.{rangeFull, firstNo}
+use Rattle.messages_buffer.specs.Fullness.{rangeFree, firstNo}
 use Rattle.anchors_cache.specs.declared.AnchorsCacheTransaction.{AnchorsCacheTransaction}
 use Rattle.anchors_cache.specs.Tables.{view}
 use Rattle.anchors_cache.specs.Windows.{poppedTimes}
@@ -30,19 +30,19 @@ unfoldable pub askedState : List ℕ → List ℕ → AnchorsCacheTransaction �
 askedState tables area t shard routes limits range =
     record {
       number = askedNumber tables area t shard routes limits range;
-      full = eqb (askedNumber tables area t shard routes limits range) 0 && rangeFull limits (range .«by_partitions»);
+      free = pick (eqb (askedNumber tables area t shard routes limits range) 0) (rangeFree limits (range .«by_partitions»)) 0;
     }
 
 -- a refusal gives only the number
 abbrev pub refusedAnswer : ℕ → ExternalsRangeReaderState → AnchorsCacheTransaction → ReadExternals
-refusedAnswer number range t = record { number = number; «last_chain_time» = Nothing; full = false; pops = 0; used = 0; counts = noCounts; range = range; state = t }
+refusedAnswer number range t = record { number = number; «last_chain_time» = Nothing; free = 0; pops = 0; used = 0; counts = noCounts; range = range; state = t }
 
 abbrev pub doneAnswer : ExternalsRangeReaderState → RangeRead → AnchorsCacheTransaction → ReadExternals
 doneAnswer range r t =
     record {
       number = 0;
       «last_chain_time» = r .last;
-      full = r .walk .buffers .full;
+      free = r .walk .buffers .free;
       pops = r .pops;
       used = r .walk .buffers .used;
       counts = r .walk .counts;

@@ -6,7 +6,7 @@ use lib.Dec.{leb, eqb}
 use Rattle.rows.specs.Rows.{pick}
 use Rattle.ext_types.specs.declared.ExternalKey.{ExternalKey}
 use Rattle.messages_buffer.specs.declared.ExternalsPartitionRangeReaderState.{ExternalsPartitionRangeReaderState}
-use Rattle.messages_buffer.specs.Fullness.{isFull, oneMore}
+use Rattle.messages_buffer.specs.Fullness.{freeIn, least, oneMore}
 use Rattle.range_reader.specs.declared.Entry.{Entry}
 use Rattle.range_rules.specs.declared.Place.{Place}
 use Rattle.range_rules.specs.declared.ProcessedTo.{ProcessedTo}
@@ -19,11 +19,11 @@ use Rattle.range_rules.specs.declared.Walk.{Walk}
 use Rattle.range_rules.specs.Rules.{endReached, movedTo, keyAt, ends, judge, entryBytes, entryLen}
 
 abbrev pub progressOf : Walk → Progress
-progressOf w = record { number = w .number; full = w .buffers .full; used = w .buffers .used }
+progressOf w = record { number = w .number; free = w .buffers .free; used = w .buffers .used }
 
 -- the walk stops at a key
 unfoldable pub stoppedAt : ReadNextExternalsMode → ExternalKey → ExternalKey → Progress → Bool
-stoppedAt mode end key b = not (eqb (b .number) 0) || (b .full || ends mode (endReached key end))
+stoppedAt mode end key b = not (eqb (b .number) 0) || (eqb (b .free) 0 || ends mode (endReached key end))
 
 -- the place follows from the offset: where no message was read it is as before
 unfoldable pub placeAt : ExternalKey → Place → ℕ → Place
@@ -34,7 +34,7 @@ walkOf start end offset b partitions read buffered =
     record {
       number = b .number;
       place = placeAt end (start .place) offset;
-      buffers = record { full = b .full; used = b .used; «by_partitions» = partitions };
+      buffers = record { free = b .free; used = b .used; «by_partitions» = partitions };
       counts = record { read = read; expired = start .counts .expired; buffered = buffered };
     }
 
@@ -45,18 +45,17 @@ bytesOf e = entryBytes (e .seqno) (e .partition) (e .key) (e .time)
 abbrev pub verdictAt : ProcessedTo → ExternalsPartitionRangeReaderState → ExternalKey → Progress → ℕ → Verdict
 verdictAt processed partition key b room = judge processed partition key (leb (b .used + entryLen) room)
 
--- what a verdict changes in the message's partition; no buffer was full, so that partition alone decides whether one is
--- full now
+-- what a verdict changes in the message's partition; of all buffers only that one has fewer places free
 unfoldable pub taken : Verdict → ℕ → ExternalsPartitionRangeReaderState → Progress → Taken
 taken Keep limit partition b = record { progress = b; read = 1; buffered = 0; partition = partition }
 taken Buffer limit partition b =
     record {
-      progress = record { number = b .number; full = isFull (partition .count + 1) limit; used = b .used + entryLen };
+      progress = record { number = b .number; free = least (b .free) (freeIn (partition .count + 1) limit); used = b .used + entryLen };
       read = 1;
       buffered = 1;
       partition = oneMore partition;
     }
-taken (Refuse n) limit partition b = record { progress = record { number = n; full = b .full; used = b .used }; read = 0; buffered = 0; partition = partition }
+taken (Refuse n) limit partition b = record { progress = record { number = n; free = b .free; used = b .used }; read = 0; buffered = 0; partition = partition }
 
 unfoldable pub entriesOf : Verdict → Entry → List ℕ
 entriesOf Keep e = []

@@ -166,7 +166,7 @@ fn finished(x: Context, time: ChainTime, count: usize, w: Walk, r: RangeRead) ->
     if messages::ends(mode, place.reached) {
         return leave(w, time, pops, true, true);
     }
-    if buffers.full {
+    if buffers.free == 0 {
         return leave(w, time, pops, r.fully_read, true);
     }
     if whole {

@@ -26,11 +26,12 @@ mod messages;
 mod questions;
 mod refusals;
 
-// `pops` anchors went from the cache; the entries take the first `used` bytes of the output.
+// `free` is the fewest free places of the range's buffers at the read's end, 0 where one is full; `pops` anchors went
+// from the cache; the entries take the first `used` bytes of the output.
 pub struct ReadExternals {
     pub number: u8,
     pub last_chain_time: LastChainTime,
-    pub full: bool,
+    pub free: u16,
     pub pops: usize,
     pub used: usize,
     pub counts: ReadCounts,
@@ -38,11 +39,11 @@ pub struct ReadExternals {
     pub state: AnchorsCacheTransaction,
 }
 
-// What the walk over an anchor's messages has come to beside its counts: the refusal, whether a buffer is full, the
-// bytes used.
+// What the walk over an anchor's messages has come to beside its counts: the refusal, the fewest free places of a
+// buffer, the bytes used.
 pub struct Progress {
     pub number: u8,
-    pub full: bool,
+    pub free: u16,
     pub used: usize,
 }
 
@@ -90,8 +91,8 @@ fn context_of(
     }
 }
 
-fn at_entry(range: ExternalsRangeReaderState, full: bool) -> RangeRead
-    ensures { λ r. ⌜ r ≡ entryOf range full ⌝ }
+fn at_entry(range: ExternalsRangeReaderState, free: u16) -> RangeRead
+    ensures { λ r. ⌜ r ≡ entryOf range free ⌝ }
 {
     let position = range.current_position;
     let to = range.to;
@@ -103,7 +104,7 @@ fn at_entry(range: ExternalsRangeReaderState, full: bool) -> RangeRead
         to: to,
     };
     let buffers = Buffers {
-        full: full,
+        free: free,
         used: 0,
         by_partitions: partitions,
     };
@@ -134,7 +135,7 @@ fn refused_answer(
     ReadExternals {
         number: number,
         last_chain_time: last,
-        full: false,
+        free: 0,
         pops: 0,
         used: 0,
         counts: NO_COUNTS,
@@ -172,7 +173,7 @@ fn done_answer(
     ReadExternals {
         number: 0,
         last_chain_time: last,
-        full: buffers.full,
+        free: buffers.free,
         pops: r.pops,
         used: buffers.used,
         counts: counts,
@@ -203,7 +204,7 @@ fn read_or_check(
         return refused_answer(asked.number, range, t);
     }
     let x = context_of(shard, limits, processed, timeout, mode, range, out.len());
-    let start = at_entry(range, asked.full);
+    let start = at_entry(range, asked.free);
     let cache = t.cache;
     let r = anchors::read_or_refuse(tables, area, cache, routes, x, start, write, &mut *out);
     let w = r.walk;

@@ -99,7 +99,7 @@ fn stops(mode: ReadNextExternalsMode, end: ExternalKey, key: ExternalKey, b: Pro
     if b.number != 0 {
         return true;
     }
-    if b.full {
+    if b.free == 0 {
         return true;
     }
     let reached = end_reached(key, end);
@@ -167,7 +167,7 @@ fn refused(n: u8, partition: ExternalsPartitionRangeReaderState, b: Progress) ->
 {
     let progress = Progress {
         number: n,
-        full: b.full,
+        free: b.free,
         used: b.used,
     };
     Taken {
@@ -185,10 +185,11 @@ fn buffered(limit: u16, partition: ExternalsPartitionRangeReaderState, b: Progre
 {
     let mut next = partition;
     next.count = partition.count + 1;
-    let full = messages_buffer::check_is_filled(next.count, limit);
+    let here = messages_buffer::check_is_filled(next.count, limit);
+    let free = messages_buffer::least(b.free, here);
     let progress = Progress {
         number: b.number,
-        full: full,
+        free: free,
         used: b.used + ENTRY_LEN,
     };
     Taken {
@@ -258,7 +259,7 @@ fn progress_of(w: Walk) -> Progress
     let b = w.buffers;
     Progress {
         number: w.number,
-        full: b.full,
+        free: b.free,
         used: b.used,
     }
 }
@@ -280,7 +281,7 @@ fn walk_of(
     let old = start.counts;
     let expired = old.expired;
     let buffers = Buffers {
-        full: b.full,
+        free: b.free,
         used: b.used,
         by_partitions: partitions,
     };

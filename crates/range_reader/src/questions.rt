@@ -1,6 +1,5 @@
 // Document 01's questions that come before the walk.
 ghost use mathlib.Core.Path.{_≡_};
-ghost use mathlib.Core.Bool.{false};
 ghost use Rattle.range_reader.specs.Calls.{askedState};
 use anchors_cache::AnchorsCacheTransaction;
 use cache_rules::AREA_BYTES;
@@ -9,15 +8,15 @@ use range_rules::ExternalsRangeReaderState;
 use shard_ident::ShardIdent;
 
 fn refused(number: u8) -> FillState
-    ensures { λ r. ⌜ r ≡ record { number = number; full = false } ⌝ }
+    ensures { λ r. ⌜ r ≡ record { number = number; free = 0 } ⌝ }
 {
     FillState {
         number: number,
-        full: false,
+        free: 0,
     }
 }
 
-// Questions 1, 2, 3, 4, 5, 9 and 10 in order, and whether a buffer is full at entry.
+// Questions 1, 2, 3, 4, 5, 9 and 10 in order, and the free places at entry.
 pub(crate) fn asked(
     tables: &[u8],
     area: &[u8],

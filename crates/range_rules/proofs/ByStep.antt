@@ -27,7 +27,7 @@ use Rattle.range_rules.specs.declared.ReadNextExternalsMode.the-variants
 use Rattle.range_rules.specs.declared.LastChainTime.the-variants.{Nothing}
 use Rattle.range_rules.specs.declared.ExternalsRangeReaderState.{ExternalsRangeReaderState}
 use Rattle.range_rules.specs.declared.Verdict.the-variants.{Keep, Buffer, Refuse}
-use Rattle.range_rules.specs.Rules.{Outcome, keyAt, withPlace, nextKey, endReached, raised, advanced, ends, stopped, noKey, noProcessed, judge, more, readOne, bufferOne, after, popped, offsetIn, lookKey, looked, expired, leave, afterPop, isWhole, finished, anchorRead, anchorsRead, contextOf, entryOf, sixSteps, rangeAfter, rangeQuestions}
+use Rattle.range_rules.specs.Rules.{Outcome, keyAt, withPlace, nextKey, endReached, raised, advanced, ends, full, stopped, noKey, noProcessed, judge, more, readOne, bufferOne, after, popped, offsetIn, lookKey, looked, expired, leave, afterPop, isWhole, finished, anchorRead, anchorsRead, contextOf, entryOf, sixSteps, rangeAfter, rangeQuestions}
 
 abbrev zeros : List ℕ
 zeros = 0 ∷ 0 ∷ 0 ∷ 0 ∷ 0 ∷ 0 ∷ 0 ∷ 0 ∷ []
@@ -39,7 +39,7 @@ unfolding keyAbove
 no-key-is-below-the-first key = or-none _ _ (le-ltb (key .«anchor_id») 0 (omega arith)) (sym (no-later (eqb 0 (key .«anchor_id»)) _ (le-ltb (key .«msgs_offset») 0 (omega arith))))
 
 -- "Fix the position and saved end at entry."
-module _ (shard : ShardIdent) (limits : List ℕ) (processed : List ProcessedTo) (timeout : Seconds) (mode : ReadNextExternalsMode) (range : ExternalsRangeReaderState) (room : ℕ) (full : Bool) where
+module _ (shard : ShardIdent) (limits : List ℕ) (processed : List ProcessedTo) (timeout : Seconds) (mode : ReadNextExternalsMode) (range : ExternalsRangeReaderState) (room free : ℕ) where
   abbrev fixed : Context
   fixed = contextOf shard limits processed timeout mode range room
 
@@ -53,11 +53,11 @@ module _ (shard : ShardIdent) (limits : List ℕ) (processed : List ProcessedTo)
   pub expiry-is-by-the-range's-chain-time : (fixed .«chain_time» ≡ range .«chain_time») × (fixed .limit ≡ millisOf timeout)
   expiry-is-by-the-range's-chain-time = (refl, refl)
 
-  pub a-read-starts-at-the-range's-position-and-to : (entryOf range full .walk .place .position ≡ range .«current_position») × (entryOf range full .walk .place .to ≡ range .to)
+  pub a-read-starts-at-the-range's-position-and-to : (entryOf range free .walk .place .position ≡ range .«current_position») × (entryOf range free .walk .place .to ≡ range .to)
   a-read-starts-at-the-range's-position-and-to = (refl, refl)
 
   -- so an anchor that step 2 pops does not end it
-  pub a-read-does-not-begin-ended : entryOf range full .ended ≡ false
+  pub a-read-does-not-begin-ended : entryOf range free .ended ≡ false
   a-read-does-not-begin-ended = refl
 
 -- the questions before the steps, in their order
@@ -173,11 +173,11 @@ pub to-stays-when-not-passed : (key to : ExternalKey) → keyAbove key to ≡ fa
 to-stays-when-not-passed key to e = pick-no _ _ _ e
 
 -- the saved end ends no walk `ToTheEnd`
-pub to-the-end-only-a-full-buffer-stops-the-messages : (x : Context) (w : Walk) → w .number ≡ 0 → x .mode ≡ ToTheEnd → stopped x w ≡ w .buffers .full
+pub to-the-end-only-a-full-buffer-stops-the-messages : (x : Context) (w : Walk) → w .number ≡ 0 → x .mode ≡ ToTheEnd → stopped x w ≡ full (w .buffers)
 unfolding stopped
 to-the-end-only-a-full-buffer-stops-the-messages x w n e =
-    ap (λ (b : Bool). not b || (w .buffers .full || ends (x .mode) (w .place .reached))) (eq-eqb (w .number) 0 n)
-    ∙ (ap (λ (m : ReadNextExternalsMode). w .buffers .full || ends m (w .place .reached)) e ∙ or-no (w .buffers .full))
+    ap (λ (b : Bool). not b || (full (w .buffers) || ends (x .mode) (w .place .reached))) (eq-eqb (w .number) 0 n)
+    ∙ (ap (λ (m : ReadNextExternalsMode). full (w .buffers) || ends m (w .place .reached)) e ∙ or-no (full (w .buffers)))
   where
     or-no : (b : Bool) → (b || false) ≡ b
     or-no true = refl
@@ -228,7 +228,7 @@ module _ (x : Context) (time : ChainTime) (p : ℕ) (w : Walk) where
 -- ---- step 6
 module _ (x : Context) (time : ChainTime) (count : ℕ) (w : Walk) (r : RangeRead) (n : w .number ≡ 0) where
   abbrev left : Bool → Bool → RangeRead
-  left full ended = leave w time (afterPop (isWhole w count) (r .pops)) full ended
+  left fully ended = leave w time (afterPop (isWhole w count) (r .pops)) fully ended
 
   -- the saved end is judged before a full buffer
   pub at-the-saved-end-the-range-is-fully-read : ends (x .mode) (w .place .reached) ≡ true → finished x time count w r ≡ left true true
@@ -237,11 +237,11 @@ module _ (x : Context) (time : ChainTime) (count : ℕ) (w : Walk) (r : RangeRea
 
   module _ (e : ends (x .mode) (w .place .reached) ≡ false) where
     -- also then an anchor read to its end is popped
-    pub a-full-buffer-ends-the-read : w .buffers .full ≡ true → finished x time count w r ≡ left (r .«fully_read») true
+    pub a-full-buffer-ends-the-read : full (w .buffers) ≡ true → finished x time count w r ≡ left (r .«fully_read») true
     unfolding finished
     a-full-buffer-ends-the-read f = pick-no _ _ _ (ap not (eq-eqb (w .number) 0 n)) ∙ (pick-no _ _ _ e ∙ pick-yes _ _ _ f)
 
-    pub an-anchor-read-to-its-end-is-popped-and-the-read-goes-on : w .buffers .full ≡ false → isWhole w count ≡ true → finished x time count w r ≡ left (r .«fully_read») false
+    pub an-anchor-read-to-its-end-is-popped-and-the-read-goes-on : full (w .buffers) ≡ false → isWhole w count ≡ true → finished x time count w r ≡ left (r .«fully_read») false
     unfolding finished
     an-anchor-read-to-its-end-is-popped-and-the-read-goes-on f g = pick-no _ _ _ (ap not (eq-eqb (w .number) 0 n)) ∙ (pick-no _ _ _ e ∙ (pick-no _ _ _ f ∙ pick-yes _ _ _ g))
 

@@ -20,7 +20,7 @@ use Rattle.shard_ident.specs.Shard.{isOurs}
 use Rattle.router.specs.Router.{partitionOf, routesNumber}
 use Rattle.router.proofs.Laws.{a-partition-is-at-most-7}
 use Rattle.messages_buffer.specs.declared.ExternalsPartitionRangeReaderState.{ExternalsPartitionRangeReaderState}
-use Rattle.messages_buffer.specs.Fullness.{noPartition, rangeFull}
+use Rattle.messages_buffer.specs.Fullness.{noPartition, rangeFree}
 use Rattle.cache_rules.specs.Rules.{Anchor}
 use Rattle.range_rules.specs.declared.Context.{Context}
 use Rattle.range_rules.specs.declared.Place.{Place}
@@ -33,7 +33,7 @@ use Rattle.range_rules.specs.declared.Verdict.the-variants.{Keep, Buffer
 use Rattle.ext_types.proofs.Laws.{fact-above, above-transitive}
 use Rattle.range_rules.specs.declared.ExternalsRangeReaderState.{ExternalsRangeReaderState}
 use Rattle.range_rules.proofs.Counts.{zeros}
-use Rattle.range_rules.specs.Rules.{rangeAfter, sixSteps, entryOf, keyAt, raised, movedTo, lookKey, Outcome, silent, followed, nextKey, advanced, ends, stopped, judge, noProcessed, more, refusedWith, readOne, bufferOne, after, verdictOn, ourRead, messageRead, messagesRead, popped, offsetIn, looked, expiredOne, expiredOver, expired, isWhole, finished, unread, walked, anchorRead, nextRead, anchorsRead, entryLen}
+use Rattle.range_rules.specs.Rules.{rangeAfter, sixSteps, entryOf, keyAt, raised, movedTo, lookKey, Outcome, silent, followed, nextKey, advanced, ends, full, stopped, judge, noProcessed, more, refusedWith, readOne, bufferOne, after, verdictOn, ourRead, messageRead, messagesRead, popped, offsetIn, looked, expiredOne, expiredOver, expired, isWhole, finished, unread, walked, anchorRead, nextRead, anchorsRead, entryLen}
 use Rattle.range_rules.proofs.Walks.{message-place}
 use Rattle.range_rules.proofs.Positions.{finished-place, looked-key}
 
@@ -175,7 +175,7 @@ module _ (x : Context) (routes : List ℕ) (time : ChainTime) where
   stuck : (l : List (List ℕ)) (s : Outcome Walk) → (s .value .number ≡ 0 → ⊥) → messagesRead x routes time l s ≡ s
   unfolding messagesRead stopped
   stuck [] s h = refl
-  stuck (m ∷ l) s h = pick-yes _ _ _ (ap (λ (b : Bool). not b || (s .value .buffers .full || ends (x .mode) (s .value .place .reached))) (ne-eqb (s .value .number) 0 h))
+  stuck (m ∷ l) s h = pick-yes _ _ _ (ap (λ (b : Bool). not b || (full (s .value .buffers) || ends (x .mode) (s .value .place .reached))) (ne-eqb (s .value .number) 0 h))
 
   was-zero : (l : List (List ℕ)) (s : Outcome Walk) → messagesRead x routes time l s .value .number ≡ 0 → s .value .number ≡ 0
   was-zero l s e = go (eqb (s .value .number) 0) refl
@@ -275,14 +275,14 @@ module _ (x : Context) (time : ChainTime) (count : ℕ) (w : Walk) (r : RangeRea
   finished-counts =
       let P : RangeRead → Type 0 = λ q. q .walk .counts ≡ w .counts in
       pick-both P (not (eqb (w .number) 0)) _ _ refl
-      (pick-both P (ends (x .mode) (w .place .reached)) _ _ refl (pick-both P (w .buffers .full) _ _ refl (pick-both P (isWhole w count) _ _ refl (refused-counts 11 w))))
+      (pick-both P (ends (x .mode) (w .place .reached)) _ _ refl (pick-both P (full (w .buffers)) _ _ refl (pick-both P (isWhole w count) _ _ refl (refused-counts 11 w))))
 
   finished-number : finished x time count w r .walk .number ≡ 0 → w .number ≡ 0
   unfolding finished
   finished-number =
       let P : RangeRead → Type 0 = λ q. q .walk .number ≡ 0 → w .number ≡ 0 in
       pick-both P (not (eqb (w .number) 0)) _ _ (λ e. e)
-      (pick-both P (ends (x .mode) (w .place .reached)) _ _ (λ e. e) (pick-both P (w .buffers .full) _ _ (λ e. e) (pick-both P (isWhole w count) _ _ (λ e. e) (λ e. absurd (let z = refused-number 11 w in omega arith)))))
+      (pick-both P (ends (x .mode) (w .place .reached)) _ _ (λ e. e) (pick-both P (full (w .buffers)) _ _ (λ e. e) (pick-both P (isWhole w count) _ _ (λ e. e) (λ e. absurd (let z = refused-number 11 w in omega arith)))))
 
   -- a look that does not end the read was not refused
   finished-going : finished x time count w r .ended ≡ false → finished x time count w r .walk .number ≡ 0
@@ -295,7 +295,7 @@ module _ (x : Context) (time : ChainTime) (count : ℕ) (w : Walk) (r : RangeRea
       go : (b : Bool) → eqb (w .number) 0 ≡ b → finished x time count w r .ended ≡ false → finished x time count w r .walk .number ≡ 0
       go true h =
           pick-both P (not (eqb (w .number) 0)) _ _ (λ e. never e)
-          (pick-both P (ends (x .mode) (w .place .reached)) _ _ (λ e. never e) (pick-both P (w .buffers .full) _ _ (λ e. never e) (pick-both P (isWhole w count) _ _ (λ e. eqb-true (w .number) 0 h) (λ e. never e))))
+          (pick-both P (ends (x .mode) (w .place .reached)) _ _ (λ e. never e) (pick-both P (full (w .buffers)) _ _ (λ e. never e) (pick-both P (isWhole w count) _ _ (λ e. eqb-true (w .number) 0 h) (λ e. never e))))
       go false h = rw h (λ e. never e)
 
   -- an anchor read to its end is popped; else the read ends
@@ -310,9 +310,9 @@ module _ (x : Context) (time : ChainTime) (count : ℕ) (w : Walk) (r : RangeRea
       go : (b : Bool) → isWhole w count ≡ b → finished x time count w r .walk .number ≡ 0 → P (finished x time count w r)
       go true h e =
           let z = eqb-true (w .place .key .«msgs_offset») count h in
-          rw h (pick-both P (not (eqb (w .number) 0)) _ _ (inl (refl, z)) (pick-both P (ends (x .mode) (w .place .reached)) _ _ (inl (refl, z)) (pick-both P (w .buffers .full) _ _ (inl (refl, z)) (inl (refl, z)))))
+          rw h (pick-both P (not (eqb (w .number) 0)) _ _ (inl (refl, z)) (pick-both P (ends (x .mode) (w .place .reached)) _ _ (inl (refl, z)) (pick-both P (full (w .buffers)) _ _ (inl (refl, z)) (inl (refl, z)))))
       go false h e =
-          rw h (pick-both P (not (eqb (w .number) 0)) _ _ (inr (refl, refl)) (pick-both P (ends (x .mode) (w .place .reached)) _ _ (inr (refl, refl)) (pick-both P (w .buffers .full) _ _ (inr (refl, refl)) (inr (refl, refl)))))
+          rw h (pick-both P (not (eqb (w .number) 0)) _ _ (inr (refl, refl)) (pick-both P (ends (x .mode) (w .place .reached)) _ _ (inr (refl, refl)) (pick-both P (full (w .buffers)) _ _ (inr (refl, refl)) (inr (refl, refl)))))
 
 looked-counts : (x : Context) (id : ℕ) (w : Walk) → looked x id w .counts ≡ w .counts
 unfolding looked
@@ -632,7 +632,7 @@ pub record ReadPassed (x : Context) (routes : List ℕ) (range : ExternalsRangeR
 module _ (x : Context) (routes : List ℕ) (sound : routesNumber routes ≡ 0) (range : ExternalsRangeReaderState) (l : List Anchor) where
   pub a-read-passes-the-messages-in-order-and-counts-each : sixSteps x routes range l .value .walk .number ≡ 0 → ReadPassed x routes range l (sixSteps x routes range l .value)
   a-read-passes-the-messages-in-order-and-counts-each e =
-      let r = entryOf range (rangeFull (x .limits) (range .«by_partitions»)) in
+      let r = entryOf range (rangeFree (x .limits) (range .«by_partitions»)) in
       let h = every-message-of-ours-passed-is-counted-as-read-or-expired x routes sound l (silent r) refl (record { read = refl; expired = refl }) e in
       record {
         n = h .n;

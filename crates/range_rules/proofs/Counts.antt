@@ -1,7 +1,7 @@
 -- Counts stay within a bound, and the used part of the output follows the entries.
 use Prim.Native.Nat.{ℕ, suc, zero, _+_, _≤_, _<_}
-use mathlib.Core.Path.{_≡_, refl, sym, ap, _∙_}
-use mathlib.Core.Bool.{Bool, true, false, not, _&&_, _||_}
+use mathlib.Core.Path.{_≡_, refl, ap}
+use mathlib.Core.Bool.{Bool, true, false, not, _||_}
 use mathlib.Core.List.{List, [], _∷_}
 use native.Mathlib.Omega.{arith}
 use lib.Dec.{eqb}
@@ -12,8 +12,8 @@ use Rattle.ext_types.specs.Keys.{keyAbove}
 use Rattle.ext_types.specs.declared.ChainTime.{ChainTime}
 use Rattle.ext_types.specs.declared.ExternalKey.{ExternalKey}
 use Rattle.messages_buffer.specs.declared.ExternalsPartitionRangeReaderState.{ExternalsPartitionRangeReaderState}
-use Rattle.messages_buffer.specs.Fullness.{rangeFull, noPartition}
-use Rattle.messages_buffer.proofs.Laws.{no-partition-full, room-left}
+use Rattle.messages_buffer.specs.Fullness.{rangeFree, noPartition}
+use Rattle.messages_buffer.proofs.Free.{room-left}
 use Rattle.shard_ident.specs.Shard.{isOurs}
 use Rattle.shard_ident.specs.declared.ShardIdent.{ShardIdent}
 use Rattle.router.specs.Router.{partitionOf}
@@ -23,7 +23,7 @@ use Rattle.range_rules.specs.declared.Walk.{Walk}
 use Rattle.range_rules.specs.declared.ProcessedTo.{ProcessedTo}
 use Rattle.range_rules.specs.declared.Verdict.{Verdict}
 use Rattle.range_rules.specs.declared.Verdict.the-variants.{Keep, Buffer, Refuse}
-use Rattle.range_rules.specs.Rules.{Outcome, silent, advanced, ends, stopped, judge, more, refusedWith, readOne, buffered, bufferOne, entryBytes, after, verdictOn, ourRead, messageRead, expiredOne, entryLen}
+use Rattle.range_rules.specs.Rules.{Outcome, silent, advanced, ends, full, stopped, judge, more, refusedWith, readOne, buffered, bufferOne, entryBytes, after, verdictOn, ourRead, messageRead, expiredOne, entryLen}
 use Rattle.range_rules.specs.Bounds.{Within}
 
 -- ---- lists of counts
@@ -58,16 +58,16 @@ module _ (x : Context) (k : ℕ) (w : Walk) (h : Within x k w) where
     read = weaker (w .counts .read) k m a (h .read);
     expired = weaker (w .counts .expired) k m a (h .expired);
     buffered = weaker (w .counts .buffered) k m a (h .buffered);
-    full = h .full;
+    free = h .free;
   }
 
   pub within-advanced : Within x k (advanced x w)
   unfolding advanced
-  within-advanced = record { read = h .read; expired = h .expired; buffered = h .buffered; full = h .full }
+  within-advanced = record { read = h .read; expired = h .expired; buffered = h .buffered; free = h .free }
 
   pub within-refused : (n : ℕ) → Within x k (refusedWith n w)
   unfolding refusedWith
-  within-refused n = record { read = h .read; expired = h .expired; buffered = h .buffered; full = h .full }
+  within-refused n = record { read = h .read; expired = h .expired; buffered = h .buffered; free = h .free }
 
   pub after-within : (v : Verdict) (time : ChainTime) (p : ℕ) → Within x (k + 1) (after v x time p w .value)
   unfolding readOne bufferOne buffered refusedWith
@@ -75,19 +75,19 @@ module _ (x : Context) (k : ℕ) (w : Walk) (h : Within x k w) where
     read = more-le (w .counts .read) p k (h .read);
     expired = weaker (w .counts .expired) k (k + 1) (omega arith) (h .expired);
     buffered = weaker (w .counts .buffered) k (k + 1) (omega arith) (h .buffered);
-    full = h .full;
+    free = h .free;
   }
   after-within Buffer time p = record {
     read = more-le (w .counts .read) p k (h .read);
     expired = weaker (w .counts .expired) k (k + 1) (omega arith) (h .expired);
     buffered = more-le (w .counts .buffered) p k (h .buffered);
-    full = refl;
+    free = refl;
   }
   after-within (Refuse n) time p = record {
     read = weaker (w .counts .read) k (k + 1) (omega arith) (h .read);
     expired = weaker (w .counts .expired) k (k + 1) (omega arith) (h .expired);
     buffered = weaker (w .counts .buffered) k (k + 1) (omega arith) (h .buffered);
-    full = h .full;
+    free = h .free;
   }
 
 -- ---- entries
@@ -140,9 +140,9 @@ judge-buffer q partition key room = go (q .present) (keyAbove key (q .key)) (par
     go false b c d e = (cc, cc)
 
 -- a walk that is not stopped has no full buffer
-pub stopped-full : (x : Context) (w : Walk) → stopped x w ≡ false → w .buffers .full ≡ false
+pub stopped-full : (x : Context) (w : Walk) → stopped x w ≡ false → full (w .buffers) ≡ false
 unfolding stopped
-stopped-full x w = go (not (eqb (w .number) 0)) (w .buffers .full) (ends (x .mode) (w .place .reached))
+stopped-full x w = go (not (eqb (w .number) 0)) (full (w .buffers)) (ends (x .mode) (w .place .reached))
   where
     go : (a b c : Bool) → (a || (b || c)) ≡ false → b ≡ false
     go true b c e = cc
@@ -150,10 +150,6 @@ stopped-full x w = go (not (eqb (w .number) 0)) (w .buffers .full) (ends (x .mod
     go false false c e = refl
 
 -- ---- one more in a buffer, where none is full
-and-false : (a b : Bool) → a ≡ true → (a && b) ≡ false → b ≡ false
-and-false true b h e = e
-and-false false b h e = cc
-
-module _ (limits : List ℕ) (b : Buffers) (p : ℕ) (l : length limits ≡ 8) (m : length (b .«by_partitions») ≡ 8) (h : p < 8) (e : rangeFull limits (b .«by_partitions») ≡ false) (q : getD (b .«by_partitions») p noPartition .present ≡ true) where
+module _ (limits : List ℕ) (b : Buffers) (p : ℕ) (l : length limits ≡ 8) (m : length (b .«by_partitions») ≡ 8) (h : p < 8) (e : eqb (rangeFree limits (b .«by_partitions»)) 0 ≡ false) (q : getD (b .«by_partitions») p noPartition .present ≡ true) where
   pub room-in : getD (b .«by_partitions») p noPartition .count + 1 ≤ getD limits p 0
-  room-in = room-left _ _ (and-false (getD (b .«by_partitions») p noPartition .present) _ q (no-partition-full limits (b .«by_partitions») (l ∙ sym m) e p (omega arith)))
+  room-in = room-left limits (b .«by_partitions») e p (omega arith) (omega arith) q

@@ -25,7 +25,7 @@ use Rattle.range_rules.specs.declared.RangeRead.{RangeRead}
 use Rattle.range_rules.specs.declared.ProcessedTo.{ProcessedTo}
 use Rattle.range_rules.specs.declared.Verdict.{Verdict}
 use Rattle.range_rules.specs.declared.Verdict.the-variants.{Keep, Buffer, Refuse}
-use Rattle.range_rules.specs.Rules.{Outcome, silent, followed, keyAt, endReached, advanced, ends, stopped, judge, noProcessed, refusedWith, readOne, bufferOne, after, verdictOn, ourRead, messageRead, messagesRead, popped, offsetIn, lookKey, looked, expiredOver, expired, leave, afterPop, isWhole, finished, unread, walked, anchorRead, entryLen}
+use Rattle.range_rules.specs.Rules.{Outcome, silent, followed, keyAt, endReached, advanced, ends, full, stopped, judge, noProcessed, refusedWith, readOne, bufferOne, after, verdictOn, ourRead, messageRead, messagesRead, popped, offsetIn, lookKey, looked, expiredOver, expired, leave, afterPop, isWhole, finished, unread, walked, anchorRead, entryLen}
 use Rattle.range_rules.proofs.Counts.{stopped-full}
 use Rattle.range_rules.proofs.Walks.{walk-all}
 
@@ -68,7 +68,7 @@ module _ (x : Context) (routes : List ℕ) (time : ChainTime) where
   unfolding stopped
   going-zero w e = go (eqb (w .number) 0) refl e
     where
-      go : (b : Bool) → eqb (w .number) 0 ≡ b → (not (eqb (w .number) 0) || (w .buffers .full || ends (x .mode) (w .place .reached))) ≡ false → w .number ≡ 0
+      go : (b : Bool) → eqb (w .number) 0 ≡ b → (not (eqb (w .number) 0) || (full (w .buffers) || ends (x .mode) (w .place .reached))) ≡ false → w .number ≡ 0
       go true h f = eqb-true (w .number) 0 h
       go false h f = never (rw h at f)
 
@@ -88,7 +88,7 @@ module _ (x : Context) (routes : List ℕ) (time : ChainTime) where
 module _ (x : Context) (time : ChainTime) (count : ℕ) (w : Walk) (r : RangeRead) where
   finished-11 : (w .number ≡ 11 → ⊥) → finished x time count w r .walk .number ≡ 11 → (stopped x w ≡ false) × (w .place .key .«msgs_offset» ≡ count → ⊥)
   unfolding finished stopped
-  finished-11 h = go (eqb (w .number) 0) (ends (x .mode) (w .place .reached)) (w .buffers .full) (isWhole w count) refl
+  finished-11 h = go (eqb (w .number) 0) (ends (x .mode) (w .place .reached)) (full (w .buffers)) (isWhole w count) refl
     where
       go : (a b c d : Bool) → isWhole w count ≡ d
           → pick (not a) (leave w time (afterPop (isWhole w count) (r .pops)) (r .«fully_read») true) (pick b (leave w time (afterPop (isWhole w count) (r .pops)) true true) (pick c (leave w time (afterPop (isWhole w count) (r .pops)) (r .«fully_read») true)
@@ -104,7 +104,7 @@ module _ (x : Context) (time : ChainTime) (count : ℕ) (w : Walk) (r : RangeRea
   unfolding refusedWith
   refused-number = refl
 
-  finished-is-11 : w .number ≡ 0 → ends (x .mode) (w .place .reached) ≡ false → w .buffers .full ≡ false → (w .place .key .«msgs_offset» ≡ count → ⊥) → finished x time count w r .walk .number ≡ 11
+  finished-is-11 : w .number ≡ 0 → ends (x .mode) (w .place .reached) ≡ false → full (w .buffers) ≡ false → (w .place .key .«msgs_offset» ≡ count → ⊥) → finished x time count w r .walk .number ≡ 11
   unfolding finished
   finished-is-11 n e f h =
       ap (λ (q : RangeRead). q .walk .number) (pick-no _ _ _ (ap not (eq-eqb (w .number) 0 n)) ∙ (pick-no _ _ _ e ∙ (pick-no _ _ _ f ∙ pick-no _ _ _ (ne-eqb (w .place .key .«msgs_offset») count h)))) ∙ refused-number
@@ -114,7 +114,7 @@ pub record NotMovingOn (x : Context) (id : ℕ) (time : ChainTime) (l : List (Li
   pub unexpired : expiredAt (x .«chain_time») time (x .limit) ≡ false
   pub position's-id : x .position .«anchor_id» ≡ id
   pub beyond : length l < x .position .«msgs_offset»
-  pub none-full : r .walk .buffers .full ≡ false
+  pub none-full : full (r .walk .buffers) ≡ false
   pub not-at-the-saved-end : ends (x .mode) (endReached (x .position) (x .«saved_end»)) ≡ false
 
 looked-parts : (x : Context) (id : ℕ) (w : Walk) → (looked x id w .number ≡ w .number) × ((looked x id w .buffers ≡ w .buffers) × ((looked x id w .place .key ≡ lookKey x id) × (looked x id w .place .reached ≡ endReached (lookKey x id) (x .«saved_end»))))
@@ -140,7 +140,7 @@ own-anchor position id m = go (eqb (position .«anchor_id») id) refl
 
 stopped-ends : (x : Context) (w : Walk) → stopped x w ≡ false → ends (x .mode) (w .place .reached) ≡ false
 unfolding stopped
-stopped-ends x w = go (not (eqb (w .number) 0)) (w .buffers .full) (ends (x .mode) (w .place .reached))
+stopped-ends x w = go (not (eqb (w .number) 0)) (full (w .buffers)) (ends (x .mode) (w .place .reached))
   where
     go : (a b c : Bool) → (a || (b || c)) ≡ false → c ≡ false
     go true b c e = never e
@@ -185,7 +185,7 @@ module _ (x : Context) (routes : List ℕ) (id : ℕ) (time : ChainTime) (l : Li
         unexpired = u;
         position's-id = c .0;
         beyond = c .1;
-        none-full = ap (λ (w : Buffers). w .full) (sym (looked-parts x id (r .walk) .1 .0)) ∙ (ap (λ (w : Walk). w .buffers .full) (sym s) ∙ stopped-full x reading (f .0));
+        none-full = ap (λ (w : Buffers). full w) (sym (looked-parts x id (r .walk) .1 .0)) ∙ (ap (λ (w : Walk). full (w .buffers)) (sym s) ∙ stopped-full x reading (f .0));
         not-at-the-saved-end = ap (λ (q : ExternalKey). ends (x .mode) (endReached q (x .«saved_end»))) (sym k) ∙ (ap (ends (x .mode)) (sym (looked-parts x id (r .walk) .1 .1 .1)) ∙ (ap (λ (w : Walk). ends (x .mode) (w .place .reached)) (sym s) ∙ stopped-ends x reading (f .0)));
       }
 
@@ -212,5 +212,5 @@ module _ (x : Context) (routes : List ℕ) (id : ℕ) (time : ChainTime) (l : Li
       (ap (λ (w : Walk). finished x time (length l) w r .walk .number) s
       ∙ finished-is-11 x time (length l) here r number-here
       (ap (ends (x .mode)) (looked-parts x id (r .walk) .1 .1 .1) ∙ (ap (λ (q : ExternalKey). ends (x .mode) (endReached q (x .«saved_end»))) k ∙ h .not-at-the-saved-end))
-      (ap (λ (w : Buffers). w .full) (looked-parts x id (r .walk) .1 .0) ∙ h .none-full)
+      (ap (λ (w : Buffers). full w) (looked-parts x id (r .walk) .1 .0) ∙ h .none-full)
       (λ e. omega arith))

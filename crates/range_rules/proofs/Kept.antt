@@ -1,6 +1,6 @@
 -- What a message put in a buffer and a refusal keep, the six steps keep: counts within the cap, and numbers 11 to 14.
 use Prim.Native.Nat.{ℕ, suc, zero, _+_, _≤_, _<_}
-use mathlib.Core.Path.{_≡_, refl, sym, _∙_}
+use mathlib.Core.Path.{_≡_, refl, sym, ap, _∙_}
 use mathlib.Core.Bool.{Bool, true, false, not}
 use mathlib.Core.List.{List, [], _∷_}
 use mathlib.Core.Logic.{_⊎_, inl, inr}
@@ -16,7 +16,7 @@ use Rattle.ext_types.specs.Time.{expiredAt}
 use Rattle.shard_ident.specs.Shard.{isOurs}
 use Rattle.router.specs.Router.{partitionOf}
 use Rattle.messages_buffer.specs.declared.ExternalsPartitionRangeReaderState.{ExternalsPartitionRangeReaderState}
-use Rattle.messages_buffer.specs.Fullness.{noPartition, oneMore, rangeFull, allLimited, limitsNumber, partitionsNumber}
+use Rattle.messages_buffer.specs.Fullness.{noPartition, oneMore, rangeFree, allLimited, limitsNumber, partitionsNumber}
 use Rattle.messages_buffer.proofs.Laws.{counts-kept, limit-within, limited-kept}
 use Rattle.cache_rules.specs.Rules.{Anchor}
 use Rattle.range_rules.specs.declared.Context.{Context}
@@ -27,7 +27,7 @@ use Rattle.range_rules.specs.declared.ProcessedTo.{ProcessedTo}
 use Rattle.range_rules.specs.declared.ExternalsRangeReaderState.{ExternalsRangeReaderState}
 use Rattle.range_rules.specs.declared.Verdict.{Verdict}
 use Rattle.range_rules.specs.declared.Verdict.the-variants.{Keep, Buffer, Refuse}
-use Rattle.range_rules.specs.Rules.{Outcome, silent, followed, advanced, ends, stopped, noProcessed, judge, refusedWith, readOne, entryLen, buffered, bufferOne, after, verdictOn, ourRead, messageRead, messagesRead, looked, expired, isWhole, finished, unread, anchorRead, nextRead, anchorsRead, sixSteps}
+use Rattle.range_rules.specs.Rules.{Outcome, silent, followed, advanced, ends, full, stopped, noProcessed, judge, refusedWith, readOne, entryLen, buffered, bufferOne, after, verdictOn, ourRead, messageRead, messagesRead, looked, expired, isWhole, finished, unread, anchorRead, nextRead, anchorsRead, sixSteps}
 use Rattle.range_rules.proofs.Counts.{stopped-full, room-in}
 
 judged : (Q : Verdict → Type 0) (processed : ProcessedTo) (partition : ExternalsPartitionRangeReaderState) (key : ExternalKey) (room : Bool)
@@ -44,18 +44,18 @@ judged Q processed partition key room keep buffer refuse = go (processed .presen
 
 -- ---- the steps
 module _ (x : Context) (routes : List ℕ) (P : ℕ → Buffers → Type 0)
-    (put : (p n : ℕ) (b : Buffers) → b .full ≡ false → getD (b .«by_partitions») p noPartition .present ≡ true → P n b → P n (buffered (x .limits) p b))
+    (put : (p n : ℕ) (b : Buffers) → full b ≡ false → getD (b .«by_partitions») p noPartition .present ≡ true → P n b → P n (buffered (x .limits) p b))
     (refuse : (k n : ℕ) (b : Buffers) → 11 ≤ k → k ≤ 14 → P n b → P k b) where
   abbrev Holds : Walk → Type 0
   Holds w = P (w .number) (w .buffers)
 
-  after-kept : (time : ChainTime) (p : ℕ) (w : Walk) → w .buffers .full ≡ false → Holds w → Holds (after (verdictOn x p w) x time p w .value)
+  after-kept : (time : ChainTime) (p : ℕ) (w : Walk) → full (w .buffers) ≡ false → Holds w → Holds (after (verdictOn x p w) x time p w .value)
   unfolding readOne bufferOne refusedWith
   after-kept time p w e h =
       judged (λ v. Holds (after v x time p w .value)) (getD (x .processed) p noProcessed) (getD (w .buffers .«by_partitions») p noPartition) (w .place .key) (leb (w .buffers .used + entryLen) (x .room))
       h (λ c. put p (w .number) (w .buffers) e c h) (λ k a b. refuse k (w .number) (w .buffers) a b h)
 
-  message-kept : (time : ChainTime) (m : List ℕ) (w : Walk) → w .buffers .full ≡ false → Holds w → Holds (messageRead x routes time m w .value)
+  message-kept : (time : ChainTime) (m : List ℕ) (w : Walk) → full (w .buffers) ≡ false → Holds w → Holds (messageRead x routes time m w .value)
   unfolding messageRead ourRead advanced
   message-kept time m w e h =
       let Q : Outcome Walk → Type 0 = λ s. Holds (s .value) in
@@ -79,7 +79,7 @@ module _ (x : Context) (routes : List ℕ) (P : ℕ → Buffers → Type 0)
       let Q : RangeRead → Type 0 = λ q. Holds (q .walk) in
       pick-both Q (not (eqb (w .number) 0)) _ _ h
       (pick-both Q (ends (x .mode) (w .place .reached)) _ _ h
-      (pick-both Q (w .buffers .full) _ _ h (pick-both Q (isWhole w count) _ _ h (refuse 11 (w .number) (w .buffers) (omega arith) (omega arith) h))))
+      (pick-both Q (full (w .buffers)) _ _ h (pick-both Q (isWhole w count) _ _ h (refuse 11 (w .number) (w .buffers) (omega arith) (omega arith) h))))
 
   anchor-kept : (id : ℕ) (time : ChainTime) (l : List (List ℕ)) (r : RangeRead) → Holds (r .walk) → Holds (anchorRead x routes id time l r .value .walk)
   unfolding anchorRead looked expired
@@ -107,14 +107,14 @@ present-inside (a ∷ l) (suc p) e = let h = present-inside l p e in omega arith
 
 -- eight records within the cap, each with a limit
 record Sound (limits : List ℕ) (b : Buffers) : Type 0 where
-  full : b .full ≡ rangeFull limits (b .«by_partitions»)
+  free : b .free ≡ rangeFree limits (b .«by_partitions»)
   counts : partitionsNumber (b .«by_partitions») ≡ 0
   limited : allLimited limits (b .«by_partitions») ≡ true
   eight : length (b .«by_partitions») ≡ 8
 
 module _ (x : Context) (eight : length (x .limits) ≡ 8) (fit : limitsNumber (x .limits) ≡ 0) where
   -- a buffer that is not full takes one message more within its limit, and so within the cap
-  put-sound : (p : ℕ) (b : Buffers) → b .full ≡ false → getD (b .«by_partitions») p noPartition .present ≡ true → Sound (x .limits) b → Sound (x .limits) (buffered (x .limits) p b)
+  put-sound : (p : ℕ) (b : Buffers) → full b ≡ false → getD (b .«by_partitions») p noPartition .present ≡ true → Sound (x .limits) b → Sound (x .limits) (buffered (x .limits) p b)
   unfolding buffered
   put-sound p b e q h =
       let ps = b .«by_partitions» in
@@ -122,10 +122,10 @@ module _ (x : Context) (eight : length (x .limits) ≡ 8) (fit : limitsNumber (x
       let same : length (x .limits) ≡ length ps = eight ∙ sym (h .eight) in
       let few : p < 8 = omega (arith, i, h .eight) in
       let j : p < length (x .limits) = omega (arith, few, eight) in
-      let room = room-in (x .limits) b p eight (h .eight) few (sym (h .full) ∙ e) q in
+      let room = room-in (x .limits) b p eight (h .eight) few (ap (λ (n : ℕ). eqb n 0) (sym (h .free)) ∙ e) q in
       let cap = limit-within (x .limits) ps same (h .limited) p j fit q in
       record {
-        full = refl;
+        free = refl;
         counts = counts-kept ps (h .counts) p i (oneMore (getD ps p noPartition)) (omega (arith, room, cap));
         limited = limited-kept (x .limits) ps same (h .limited) p j (oneMore (getD ps p noPartition)) refl;
         eight = length-set ps p (oneMore (getD ps p noPartition)) ∙ h .eight;
@@ -136,7 +136,7 @@ module _ (x : Context) (eight : length (x .limits) ≡ 8) (fit : limitsNumber (x
       → allLimited (x .limits) (range .«by_partitions») ≡ true
       → (partitionsNumber (sixSteps x routes range anchors .value .walk .buffers .«by_partitions») ≡ 0) × (length (sixSteps x routes range anchors .value .walk .buffers .«by_partitions») ≡ 8)
   the-six-steps-keep-every-count-within-the-cap routes range anchors n c l =
-      let s = anchors-kept x routes (λ k b. Sound (x .limits) b) (λ p k b. put-sound p b) (λ j k b low high h. h) anchors _ (record { full = refl; counts = c; limited = l; eight = n }) in
+      let s = anchors-kept x routes (λ k b. Sound (x .limits) b) (λ p k b. put-sound p b) (λ j k b low high h. h) anchors _ (record { free = refl; counts = c; limited = l; eight = n }) in
       (s .counts, s .eight)
 
 -- ---- questions 11 to 14

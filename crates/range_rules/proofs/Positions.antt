@@ -15,7 +15,7 @@ use Rattle.range_rules.specs.declared.Context.{Context}
 use Rattle.range_rules.specs.declared.Place.{Place}
 use Rattle.range_rules.specs.declared.Walk.{Walk}
 use Rattle.range_rules.specs.declared.RangeRead.{RangeRead}
-use Rattle.range_rules.specs.Rules.{Outcome, silent, followed, advanced, stopped, refusedWith, messageRead, messagesRead, popped, lookKey, looked, isWhole, ends, finished, unread, walked, anchorRead}
+use Rattle.range_rules.specs.Rules.{Outcome, silent, followed, advanced, full, stopped, refusedWith, messageRead, messagesRead, popped, lookKey, looked, isWhole, ends, finished, unread, walked, anchorRead}
 use Rattle.range_rules.proofs.Walks.{message-place}
 
 -- no message was read and the place is as it was, or the position is that of the last message read
@@ -45,7 +45,7 @@ unfolding finished
 finished-place x time count w r =
     let P : RangeRead → Type 0 = λ q. q .walk .place ≡ w .place in
     pick-both P (not (eqb (w .number) 0)) _ _ refl
-    (pick-both P (ends (x .mode) (w .place .reached)) _ _ refl (pick-both P (w .buffers .full) _ _ refl (pick-both P (isWhole w count) _ _ refl (refused-place 11 w))))
+    (pick-both P (ends (x .mode) (w .place .reached)) _ _ refl (pick-both P (full (w .buffers)) _ _ refl (pick-both P (isWhole w count) _ _ refl (refused-place 11 w))))
 
 looked-position : (x : Context) (id : ℕ) (w : Walk) → looked x id w .place .position ≡ w .place .position
 unfolding looked

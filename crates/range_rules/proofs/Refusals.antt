@@ -26,7 +26,7 @@ use Rattle.range_rules.specs.declared.RangeRead.{RangeRead}
 use Rattle.range_rules.specs.declared.ProcessedTo.{ProcessedTo}
 use Rattle.range_rules.specs.declared.Verdict.{Verdict}
 use Rattle.range_rules.specs.declared.Verdict.the-variants.{Keep, Buffer, Refuse}
-use Rattle.range_rules.specs.Rules.{Outcome, silent, followed, advanced, ends, stopped, noProcessed, judge, refusedWith, readOne, onePut, buffered, bufferOne, after, verdictOn, ourRead, messageRead, messagesRead, popped, offsetIn, looked, expiredOver, expired, leave, afterPop, isWhole, finished, unread, anchorRead, nextRead, anchorsRead, entryLen}
+use Rattle.range_rules.specs.Rules.{Outcome, silent, followed, advanced, ends, full, stopped, noProcessed, judge, refusedWith, readOne, onePut, buffered, bufferOne, after, verdictOn, ourRead, messageRead, messagesRead, popped, offsetIn, looked, expiredOver, expired, leave, afterPop, isWhole, finished, unread, anchorRead, nextRead, anchorsRead, entryLen}
 use Rattle.range_rules.specs.Refusals.{isOpen, routeOpen, allOpen, startsWithin, allFit, cannotRefuse}
 
 -- ---- a message's partition is open
@@ -114,7 +114,7 @@ module _ (x : Context) (routes : List ℕ) where
   -- step 6 after a walk that was stopped or came to the anchor's end
   finished-free : (time : ChainTime) (count n : ℕ) (w : Walk) (r : RangeRead) → (stopped x w ≡ false → w .place .key .«msgs_offset» ≡ count) → Free x routes n w → Free x routes n (finished x time count w r .walk)
   unfolding finished stopped
-  finished-free time count n w r e h = go (eqb (w .number) 0) (ends (x .mode) (w .place .reached)) (w .buffers .full) (isWhole w count) refl e
+  finished-free time count n w r e h = go (eqb (w .number) 0) (ends (x .mode) (w .place .reached)) (full (w .buffers)) (isWhole w count) refl e
     where
       pops : ℕ
       pops = afterPop (isWhole w count) (r .pops)

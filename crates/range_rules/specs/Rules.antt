@@ -15,7 +15,7 @@ use Rattle.shard_ident.specs.declared.ShardIdent.{ShardIdent}
 use Rattle.shard_ident.specs.Shard.{isOurs, shardNumber}
 use Rattle.router.specs.Router.{partitionOf, routesNumber}
 use Rattle.messages_buffer.specs.declared.ExternalsPartitionRangeReaderState.{ExternalsPartitionRangeReaderState}
-use Rattle.messages_buffer.specs.Fullness.{rangeFull, noPartition, oneMore, limitsNumber, partitionsNumber, limitedNumber, firstNo}
+use Rattle.messages_buffer.specs.Fullness.{rangeFree, noPartition, oneMore, limitsNumber, partitionsNumber, limitedNumber, firstNo}
 use Rattle.cache_rules.specs.Rules.{Anchor, ask, areaBytes}
 use Rattle.range_rules.specs.declared.Context.{Context}
 use Rattle.range_rules.specs.declared.Place.{Place}
@@ -81,9 +81,13 @@ abbrev pub ends : ReadNextExternalsMode → Bool → Bool
 ends ToTheEnd reached = false
 ends ToPreviuosReadTo reached = reached
 
+-- Document 02, ticket 7: "Full now means 0 free."
+abbrev pub full : Buffers → Bool
+full b = eqb (b .free) 0
+
 -- a question was answered "no", a buffer is full, or the saved end is reached
 unfoldable pub stopped : Context → Walk → Bool
-stopped x w = not (eqb (w .number) 0) || (w .buffers .full || ends (x .mode) (w .place .reached))
+stopped x w = not (eqb (w .number) 0) || (full (w .buffers) || ends (x .mode) (w .place .reached))
 
 abbrev pub noKey : ExternalKey
 noKey = keyAt 0 0
@@ -117,7 +121,7 @@ abbrev pub entryLen : ℕ
 entryLen = 26
 
 unfoldable pub buffered : List ℕ → ℕ → Buffers → Buffers
-buffered limits p b = record { full = rangeFull limits (onePut p (b .«by_partitions»)); used = b .used + entryLen; «by_partitions» = onePut p (b .«by_partitions») }
+buffered limits p b = record { free = rangeFree limits (onePut p (b .«by_partitions»)); used = b .used + entryLen; «by_partitions» = onePut p (b .«by_partitions») }
 
 unfoldable pub bufferOne : Context → ℕ → Walk → Walk
 bufferOne x p w =
@@ -213,7 +217,7 @@ unfoldable pub finished : Context → ChainTime → ℕ → Walk → RangeRead �
 finished x time count w r =
     pick (not (eqb (w .number) 0)) (leave w time (afterPop (isWhole w count) (r .pops)) (r .«fully_read») true)
     (pick (ends (x .mode) (w .place .reached)) (leave w time (afterPop (isWhole w count) (r .pops)) true true)
-    (pick (w .buffers .full) (leave w time (afterPop (isWhole w count) (r .pops)) (r .«fully_read») true)
+    (pick (full (w .buffers)) (leave w time (afterPop (isWhole w count) (r .pops)) (r .«fully_read») true)
     (pick (isWhole w count) (leave w time (afterPop (isWhole w count) (r .pops)) (r .«fully_read») false)
     (leave (refusedWith 11 w) time (afterPop (isWhole w count) (r .pops)) (r .«fully_read») true))))
 
@@ -263,13 +267,13 @@ contextOf shard limits processed timeout mode range room =
 abbrev pub noCounts : ReadCounts
 noCounts = record { read = replicate 8 0; expired = replicate 8 0; buffered = replicate 8 0 }
 
-abbrev pub entryOf : ExternalsRangeReaderState → Bool → RangeRead
-entryOf range full =
+abbrev pub entryOf : ExternalsRangeReaderState → ℕ → RangeRead
+entryOf range free =
     record {
       walk = record {
         number = 0;
         place = record { key = range .«current_position»; reached = false; position = range .«current_position»; to = range .to };
-        buffers = record { full = full; used = 0; «by_partitions» = range .«by_partitions» };
+        buffers = record { free = free; used = 0; «by_partitions» = range .«by_partitions» };
         counts = noCounts;
       };
       pops = 0;
@@ -280,7 +284,7 @@ entryOf range full =
 
 -- the six steps, from the range as it is at entry, over the cached anchors
 abbrev pub sixSteps : Context → List ℕ → ExternalsRangeReaderState → List Anchor → Outcome RangeRead
-sixSteps x routes range anchors = anchorsRead x routes anchors (silent (entryOf range (rangeFull (x .limits) (range .«by_partitions»))))
+sixSteps x routes range anchors = anchorsRead x routes anchors (silent (entryOf range (rangeFree (x .limits) (range .«by_partitions»))))
 
 -- the range that a read leaves
 abbrev pub rangeAfter : ExternalsRangeReaderState → RangeRead → ExternalsRangeReaderState

@@ -78,9 +78,10 @@ pub struct Place {
     pub to: ExternalKey,
 }
 
-// The range's buffers, whether one is full, and how many bytes of the output are used.
+// The range's buffers, the fewest free places of one of them (0: it is full), and how many bytes of the output are
+// used.
 pub struct Buffers {
-    pub full: bool,
+    pub free: u16,
     pub used: usize,
     pub by_partitions: [ExternalsPartitionRangeReaderState; 8],
 }

@@ -92,7 +92,7 @@ module _ (tables area : List ℕ) (t : AnchorsCacheTransaction) (routes : List �
   abbrev state : ExternalsReaderState
   state = r .«reader_state»
 
-  abbrev fixed : Fixed
+  abbrev pub fixed : Fixed
   fixed = fixedOf r mode (importedIn tables (t .cache)) (length out)
 
   abbrev all : Outcome RangesRead
@@ -113,7 +113,7 @@ module _ (tables area : List ℕ) (t : AnchorsCacheTransaction) (routes : List �
       go false e c m = refused (eqb-false n 0 e)
 
   -- questions 4 and 5: the open-ranges limit and the ranges are within 16, whatever the output's length
-  begun : askedOfRead tables area t routes r ≡ 0 → r .«all_ranges_fully_read» ≡ false → Start (fixedOf r mode (importedIn tables (t .cache)) 0) (atEntry state) []
+  pub begun : askedOfRead tables area t routes r ≡ 0 → r .«all_ranges_fully_read» ≡ false → Start (fixedOf r mode (importedIn tables (t .cache)) 0) (atEntry state) []
   begun z m = call-start tables area t routes r mode [] (askedOfRead tables area t routes r) refl z m (fixedOf r mode (importedIn tables (t .cache)) 0) refl (omega arith)
 
   all-sound : Shaped r → stateNumber state ≡ 0 → askedOfRead tables area t routes r ≡ 0 → r .«all_ranges_fully_read» ≡ false → Sound (all .value)
@@ -145,7 +145,7 @@ module _ (tables area : List ℕ) (t : AnchorsCacheTransaction) (routes : List �
       done : ReadAllResult
       done =
           record {
-            answer = record { number = 0; used = q .«so_far» .used; counts = q .«so_far» .counts; reader = readerAfter r q; state = popsCall (length area) (q .«so_far» .pops) tables t .state };
+            answer = record { number = 0; free = q .«so_far» .free; used = q .«so_far» .used; counts = q .«so_far» .counts; reader = readerAfter r q; state = popsCall (length area) (q .«so_far» .pops) tables t .state };
             out = sets out 0 (all .entries);
           }
 

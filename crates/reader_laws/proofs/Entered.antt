@@ -164,7 +164,7 @@ module _ (tables area : List ℕ) (t : AnchorsCacheTransaction) (active : t .act
       where
         go : (k : ℕ) → Done-of (pick (eqb k 0)
             (record {
-              answer = record { number = 0; used = s .value .«so_far» .used; counts = s .value .«so_far» .counts; reader = readerAfter (h .reader) (s .value); state = popsCall (length area) (s .value .«so_far» .pops) tables t .state };
+              answer = record { number = 0; free = s .value .«so_far» .free; used = s .value .«so_far» .used; counts = s .value .«so_far» .counts; reader = readerAfter (h .reader) (s .value); state = popsCall (length area) (s .value .«so_far» .pops) tables t .state };
               out = sets (h .out) 0 (s .entries);
             }) (unchanged k (h .reader) t (h .out))) ≡ record { number = k; state = onZero k (popped (s .value .«so_far» .pops)) t }
         go zero = rw (popped-state (s .value .«so_far» .pops))

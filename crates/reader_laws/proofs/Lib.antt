@@ -9,3 +9,4 @@ pub mod AllKept
 pub mod ReaderKept
 pub mod OneReader
 pub mod Masterchain
+pub mod Reported

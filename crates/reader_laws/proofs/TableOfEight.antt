@@ -18,7 +18,7 @@ use Rattle.shard_ident.specs.Shard.{lowestSet, isShard, sameWorkchain, sameAbov
 use Rattle.shard_ident.proofs.Laws.{above-tag-shift, be-eight}
 use Rattle.router.specs.Router.{routesNumber, soundRoutes, noneTwice, partitionsExist, partitionOf, firstPartition}
 use Rattle.messages_buffer.specs.declared.ExternalsPartitionRangeReaderState.{ExternalsPartitionRangeReaderState}
-use Rattle.messages_buffer.specs.Fullness.{noPartition, noLimit, isFull, every, buffers, allLimited, rangeFull, limitsNumber, partitionsNumber, limitedNumber, firstNo}
+use Rattle.messages_buffer.specs.Fullness.{noPartition, noLimit, freeIn, smallest, every, buffers, allLimited, rangeFree, limitsNumber, partitionsNumber, limitedNumber, firstNo}
 use Rattle.anchors_cache.specs.declared.AnchorsCacheTransaction.{AnchorsCacheTransaction}
 use Rattle.cache_rules.specs.Rules.{Info, Anchor, Cache, dropStale, popFront, soundCache, soundFrom, soundRow, total, areaBytes}
 use Rattle.anchors_cache.specs.Tables.{view}
@@ -122,7 +122,7 @@ unfolding judge keyAbove
 buffers-it partition e = rw e
 
 second-only : bookSteps (handed 2 (keyAt 2 1) noKey 1000) (one-anchor 2 (ours ∷ ours ∷ [])) .entries ≡ entryBytes 5 0 (keyAt 2 2) (record { 0 = 1000 })
-unfolding bookSteps rangeFull every buffers isFull anchorsRead anchorRead looked messagesRead messageRead stopped advanced keyAbove keyEqual isOurs sameWorkchain sameAboveTag sameBits lowestSet bigEndian partitionOf firstPartition ourRead judge readOne bufferOne buffered entryBytes finished le rows
+unfolding bookSteps rangeFree smallest buffers freeIn anchorsRead anchorRead looked messagesRead messageRead stopped advanced keyAbove keyEqual isOurs sameWorkchain sameAboveTag sameBits lowestSet bigEndian partitionOf firstPartition ourRead judge readOne bufferOne buffered entryBytes finished le rows
 second-only = refl
 
 expired-front : (messages : List (List ℕ)) → let s = bookSteps (handed 0 noKey noKey 61001) (one-anchor 1 messages) in (s .value .pops ≡ 1) × (s .entries ≡ []) × (s .value .walk .counts .buffered ≡ replicate 8 0)
@@ -162,7 +162,7 @@ module _ (message : List ℕ) (long : 33 ≤ length message) (bytes : (i : ℕ) 
       by-account 1 (div-eq-of-lt-le (2 ^ 63) (omega arith) (omega arith)) (omega arith)
 
 eleven : (area m n o : List ℕ) → areaBytes ≤ length area → bookReadNumber (handed 2 noKey (keyAt 2 4) 1000) area (one-anchor 2 (m ∷ n ∷ o ∷ [])) (one-anchor 2 (m ∷ n ∷ o ∷ [])) ≡ 11
-unfolding bookReadNumber bookSteps firstNo isShard lowestSet routesNumber soundRoutes noneTwice partitionsExist limitsNumber partitionsNumber limitedNumber allLimited every buffers rangeFull isFull holds soundCache soundFrom soundRow total anchorsRead anchorRead looked messagesRead finished refusedWith rows
+unfolding bookReadNumber bookSteps firstNo isShard lowestSet routesNumber soundRoutes noneTwice partitionsExist limitsNumber partitionsNumber limitedNumber allLimited every buffers rangeFree smallest freeIn holds soundCache soundFrom soundRow total anchorsRead anchorRead looked messagesRead finished refusedWith rows
 eleven area m n o big = rw (le-leb areaBytes (length area) big)
 
 module _ (tables area : List ℕ) (t : AnchorsCacheTransaction) (zero-open : openCall (length area) tables t .number ≡ 0) where

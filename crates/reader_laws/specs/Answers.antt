@@ -23,13 +23,14 @@ use Rattle.range_laws.specs.OneRange.{Handed, bookSteps}
 use Rattle.reader_rules.specs.declared.ExternalsReader.{ExternalsReader}
 use Rattle.reader_rules.specs.declared.RangesRead.{RangesRead}
 use Rattle.reader_rules.specs.State.{withState, withMark}
-use Rattle.reader_rules.specs.Rules.{Told, timeSaved}
+use Rattle.reader_rules.specs.Rules.{Told, timeSaved, freeValue}
 use Rattle.externals_reader.specs.Calls.{told, ReadAllResult, readAllCall}
 use Rattle.reader_laws.specs.AllRanges.{HandedAll, bookAllRead}
 use Rattle.reader_laws.specs.Steps.{Step, pop, popFronts, trimAbove, readsOne, readsAll, commit, rollback, adds, addsInfo, opens, clears, closes, asks, call}
 
 -- what a read of all ranges answers beside number and transaction
 pub record AllTold : Type 0 where
+  pub free : Option ℕ
   pub used : ℕ
   pub counts : ReadCounts
   pub reader : ExternalsReader
@@ -114,7 +115,7 @@ abbrev doneTold : ExternalsRangeReaderState → RangeRead → Told
 doneTold range r =
     record {
       number = 0;
-      full = r .walk .buffers .full;
+      free = r .walk .buffers .free;
       pops = r .pops;
       used = r .walk .buffers .used;
       last = r .last;
@@ -124,7 +125,7 @@ doneTold range r =
 
 -- "A refusal gives only the number"
 abbrev refusedTold : ExternalsRangeReaderState → ℕ → Told
-refusedTold range n = record { number = n; full = false; pops = 0; used = 0; last = Nothing; counts = noCounts; range = range }
+refusedTold range n = record { number = n; free = 0; pops = 0; used = 0; last = Nothing; counts = noCounts; range = range }
 
 abbrev pub rangeReply : Handed → Reply
 rangeReply h =
@@ -135,10 +136,10 @@ rangeReply h =
     }
 
 abbrev pub allAnswered : ReadAllResult → Answered
-allAnswered r = all-told (record { used = r .answer .used; counts = r .answer .counts; reader = r .answer .reader }) (r .out)
+allAnswered r = all-told (record { free = freeValue (r .answer .free); used = r .answer .used; counts = r .answer .counts; reader = r .answer .reader }) (r .out)
 
 abbrev pub nothingTold : HandedAll → Answered
-nothingTold h = all-told (record { used = 0; counts = noCounts; reader = h .reader }) (h .out)
+nothingTold h = all-told (record { free = none; used = 0; counts = noCounts; reader = h .reader }) (h .out)
 
 -- The reader as the ranges' turns leave it. "The saved last chain time changes only if the last range read saw one."
 abbrev readerLeft : ExternalsReader → RangesRead → ExternalsReader
@@ -157,7 +158,7 @@ allReply h =
           let s = bookAllRead h v in
           let q = s .value in
           pick (h .reader .«all_ranges_fully_read») (nothingTold h)
-          (all-told (record { used = q .«so_far» .used; counts = q .«so_far» .counts; reader = readerLeft (h .reader) q }) (sets (h .out) 0 (s .entries)));
+          (all-told (record { free = freeValue (q .«so_far» .free); used = q .«so_far» .used; counts = q .«so_far» .counts; reader = readerLeft (h .reader) q }) (sets (h .out) 0 (s .entries)));
       refused = λ n. nothingTold h;
     }
 

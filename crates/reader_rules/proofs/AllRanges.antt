@@ -3,6 +3,7 @@ use Prim.Native.Nat.{ℕ, suc, _+_, _-_, _<_}
 use mathlib.Core.Path.{_≡_, refl, sym, ap, _∙_}
 use mathlib.Core.Bool.{Bool, true, false, not, _&&_, _||_}
 use mathlib.Core.List.{List, [], _∷_}
+use mathlib.Core.Option.{none, some}
 use native.Mathlib.Omega.{arith}
 use lib.Dec.{eqb, ltb, leb}
 use lib.ListN.{length, getD, set}
@@ -30,7 +31,7 @@ use Rattle.reader_rules.specs.declared.SoFar.{SoFar}
 use Rattle.reader_rules.specs.declared.ExternalsReaderState.{ExternalsReaderState}
 use Rattle.reader_rules.specs.State.{noRange, noReaderPartition, withFullyRead, withToAndPosition, openRangesLimit}
 use Rattle.reader_rules.proofs.Each.{each-at, each-length}
-use Rattle.reader_rules.specs.Rules.{withDefault, partitionsEntered, rangeEntered, rangesEntered, lastOr, nextPartition, nextRange, continues, wantsNext, reached, beforeSkipOffsets, isOwn, waits, isSkipped, modeFor, movedToEnd, settled, Told, numbered, notAllRead, added, readOf, afterTurn, sums, countsAdded, OneRange, readTurn, turn, isOver, turns, withNextRange, atEntry, timeSaved}
+use Rattle.reader_rules.specs.Rules.{withDefault, partitionsEntered, rangeEntered, rangesEntered, lastOr, nextPartition, nextRange, continues, wantsNext, reached, beforeSkipOffsets, isOwn, waits, isSkipped, modeFor, movedToEnd, settled, Told, numbered, notAllRead, added, readOf, afterTurn, sums, countsAdded, OneRange, readTurn, turn, isOver, turns, withNextRange, atEntry, timeSaved, freeValue}
 
 -- ---- `new`
 pub a-partition-that-is-there-stays : (limit : ℕ) (p : ExternalsPartitionReaderState) → p .present ≡ true → withDefault limit p ≡ p
@@ -207,24 +208,31 @@ pub a-range-that-stands-at-the-last-imported-entry-stays-as-it-is : (key : Exter
 a-range-that-stands-at-the-last-imported-entry-stays-as-it-is key r p t = ap (λ (k : ExternalKey). withToAndPosition r key k) (sym p) ∙ ap (λ (k : ExternalKey). withToAndPosition r k (r .«current_position»)) (sym t)
 
 -- ---- what a turn comes to
--- at entry nothing is popped, written or counted, and no range is yet known not to be read
+-- at entry nothing is popped, written, counted or reported, and no range is yet known not to be read
 pub before-the-first-turn-all-counts-as-read : (s : ExternalsReaderState)
-    → (atEntry s .«so_far» .number ≡ 0) × (atEntry s .«so_far» .pops ≡ 0) × (atEntry s .«so_far» .used ≡ 0) × (atEntry s .«so_far» .«all_read» ≡ true) × (atEntry s .«so_far» .stopped ≡ false)
-before-the-first-turn-all-counts-as-read s = (refl, refl, refl, refl, refl)
+    → (atEntry s .«so_far» .number ≡ 0) × (atEntry s .«so_far» .pops ≡ 0) × (atEntry s .«so_far» .used ≡ 0) × (atEntry s .«so_far» .«all_read» ≡ true) × (atEntry s .«so_far» .stopped ≡ false) × (freeValue (atEntry s .«so_far» .free) ≡ none)
+before-the-first-turn-all-counts-as-read s = (refl, refl, refl, refl, refl, refl)
 
 -- and where that is known already, nothing
 pub a-skipped-range-changes-only-whether-all-are-read : (s : SoFar) → (notAllRead s .«all_read» ≡ false) × (s .«all_read» ≡ false → notAllRead s ≡ s)
 a-skipped-range-changes-only-whether-all-are-read s = (refl, λ e. ap said (sym e))
   where
     said : Bool → SoFar
-    said b = record { number = s .number; pops = s .pops; used = s .used; «all_read» = b; stopped = s .stopped; last = s .last; counts = s .counts }
+    said b = record { number = s .number; pops = s .pops; used = s .used; «all_read» = b; stopped = s .stopped; free = s .free; last = s .last; counts = s .counts }
 
 module _ (s : SoFar) (a : Told) where
   pub a-full-buffer-in-a-range-fully-read-does-not-end-the-call : a .range .«fully_read» ≡ true → added s a .stopped ≡ false
-  a-full-buffer-in-a-range-fully-read-does-not-end-the-call e = sym (no-later (a .full) _ (ap not e))
+  a-full-buffer-in-a-range-fully-read-does-not-end-the-call e = sym (no-later (eqb (a .free) 0) _ (ap not e))
 
-  pub a-full-buffer-in-a-range-not-fully-read-ends-the-call : a .full ≡ true → a .range .«fully_read» ≡ false → added s a .stopped ≡ true
-  a-full-buffer-in-a-range-not-fully-read-ends-the-call f e = ap (λ (b : Bool). b && not (a .range .«fully_read»)) f ∙ ap not e
+  pub a-full-buffer-in-a-range-not-fully-read-ends-the-call : a .free ≡ 0 → a .range .«fully_read» ≡ false → added s a .stopped ≡ true
+  a-full-buffer-in-a-range-not-fully-read-ends-the-call f e = ap (λ (b : Bool). b && not (a .range .«fully_read»)) (eq-eqb (a .free) 0 f) ∙ ap not e
+
+  -- and only a full one does
+  pub a-range-with-a-place-free-does-not-end-the-call : (a .free ≡ 0 → ⊥) → added s a .stopped ≡ false
+  a-range-with-a-place-free-does-not-end-the-call f = ap (λ (b : Bool). b && not (a .range .«fully_read»)) (ne-eqb (a .free) 0 f)
+
+  pub a-range-read-tells-its-own-free-places : freeValue (added s a .free) ≡ some (a .free)
+  a-range-read-tells-its-own-free-places = refl
 
   pub the-last-chain-time-is-that-of-the-last-range-read : added s a .last ≡ a .last
   the-last-chain-time-is-that-of-the-last-range-read = refl

@@ -7,3 +7,4 @@ pub mod Sums
 pub mod Offsets
 pub mod Examples
 pub mod Marks
+pub mod Reported

@@ -85,7 +85,7 @@ module _ (one : OneRange) (x : Fixed) (slots len : ℕ) where
           record {
             mark = λ y. ap (λ (b : Bool). b && a .range .«fully_read») (m .mark z) ∙ ap (λ (b : Bool). allFullyRead (take i (r .ranges)) && b) (sym (settled-mark x (a .range)))
                 ∙ sym (ap allFullyRead (take-suc-set (r .ranges) i q (omega (arith, h, m .many))) ∙ one-more (take i (r .ranges)) q);
-            stop = λ y s. sym (no-later (r .«so_far» .«all_read») _ (not-true _ (and-true (a .full) _ s .1)));
+            stop = λ y s. sym (no-later (r .«so_far» .«all_read») _ (not-true _ (and-true (eqb (a .free) 0) _ s .1)));
             many = length-set (r .ranges) i q ∙ m .many;
             ranges = m .ranges;
           }

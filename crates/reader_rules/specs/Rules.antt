@@ -26,6 +26,9 @@ use Rattle.reader_rules.specs.declared.GetNextMessageGroupMode.the-varia
 use Rattle.reader_rules.specs.declared.Imported.{Imported}
 use Rattle.reader_rules.specs.declared.Imported.the-variants.{End}
 use Rattle.reader_rules.specs.declared.Imported.the-variants as imported
+use Rattle.reader_rules.specs.declared.LastFree.{LastFree}
+use Rattle.reader_rules.specs.declared.LastFree.the-variants.{Places}
+use Rattle.reader_rules.specs.declared.LastFree.the-variants as lastFree
 use Rattle.reader_rules.specs.declared.Fixed.{Fixed}
 use Rattle.reader_rules.specs.declared.RangesRead.{RangesRead}
 use Rattle.reader_rules.specs.declared.SoFar.{SoFar}
@@ -154,10 +157,15 @@ abbrev pub timeSaved : LastChainTime → LastChainTime → LastChainTime
 timeSaved Nothing saved = saved
 timeSaved (Time time) saved = Time time
 
+-- the free places that the last range read reported, or none
+abbrev pub freeValue : LastFree → Option ℕ
+freeValue lastFree.Nothing = none
+freeValue (Places n) = some n
+
 -- what one range's read answers, but for the transaction
 pub record Told : Type 0 where
   pub number : ℕ
-  pub full : Bool
+  pub free : ℕ
   pub pops : ℕ
   pub used : ℕ
   pub last : LastChainTime
@@ -166,12 +174,12 @@ pub record Told : Type 0 where
 
 -- a refusal gives only the number
 abbrev pub numbered : ℕ → SoFar → SoFar
-numbered n s = record { number = n; pops = s .pops; used = s .used; «all_read» = s .«all_read»; stopped = s .stopped; last = s .last; counts = s .counts }
+numbered n s = record { number = n; pops = s .pops; used = s .used; «all_read» = s .«all_read»; stopped = s .stopped; free = s .free; last = s .last; counts = s .counts }
 
 abbrev pub notAllRead : SoFar → SoFar
-notAllRead s = record { number = s .number; pops = s .pops; used = s .used; «all_read» = false; stopped = s .stopped; last = s .last; counts = s .counts }
+notAllRead s = record { number = s .number; pops = s .pops; used = s .used; «all_read» = false; stopped = s .stopped; free = s .free; last = s .last; counts = s .counts }
 
--- "A full buffer in a range not fully read ends the call."
+-- "A full buffer in a range not fully read ends the call." The number of free places is that of the last range read.
 abbrev pub added : SoFar → Told → SoFar
 added s a =
     record {
@@ -179,7 +187,8 @@ added s a =
       pops = s .pops + a .pops;
       used = s .used + a .used;
       «all_read» = s .«all_read» && a .range .«fully_read»;
-      stopped = a .full && not (a .range .«fully_read»);
+      stopped = eqb (a .free) 0 && not (a .range .«fully_read»);
+      free = Places (a .free);
       last = a .last;
       counts = countsAdded (s .counts) (a .counts);
     }
@@ -250,7 +259,7 @@ fixedOf r mode end room =
     }
 
 abbrev pub nothingRead : SoFar
-nothingRead = record { number = 0; pops = 0; used = 0; «all_read» = true; stopped = false; last = Nothing; counts = noCounts }
+nothingRead = record { number = 0; pops = 0; used = 0; «all_read» = true; stopped = false; free = lastFree.Nothing; last = Nothing; counts = noCounts }
 
 abbrev pub atEntry : ExternalsReaderState → RangesRead
 atEntry s = readOf nothingRead (s .ranges) (s .len)

@@ -73,15 +73,21 @@ pub struct Fixed {
     pub room: usize,
 }
 
-// What the turns so far have come to: the pops, the bytes used, whether every range so far is fully read, and whether a
-// full
-// buffer stopped the read.
+// The free places that the last range read reported.
+pub enum LastFree {
+    Nothing,
+    Places(u16),
+}
+
+// What the turns so far have come to: the pops, the bytes used, whether every range so far is fully read, whether a
+// full buffer stopped the read, and what the last range read reported.
 pub struct SoFar {
     pub number: u8,
     pub pops: usize,
     pub used: usize,
     pub all_read: bool,
     pub stopped: bool,
+    pub free: LastFree,
     pub last: LastChainTime,
     pub counts: ReadCounts,
 }

@@ -16,7 +16,7 @@ use Rattle.externals_reader.specs.declared.ReadIntoBuffers.{ReadIntoBuffers}
 use Rattle.externals_reader.specs.Calls.{ReadAllResult, readAllCall}
 use Rattle.records.specs.Records.{recordNumber}
 use Rattle.text.specs.Shown.{Text, show, line}
-use Rattle.lines.specs.Lines.{entryLines, rangeLines}
+use Rattle.lines.specs.Lines.{freeLine, entryLines, rangeLines}
 use Rattle.text.proofs.Laws.{show-on}
 use Rattle.session_rules.specs.declared.Session.{Session}
 use Rattle.session_rules.specs.Said.{Printed, printed, withAt, withTransaction, recordCounted, badSaid, malformedSaid, doName, PlainLeft, plainLeft, isTaken}
@@ -49,11 +49,11 @@ module _ (a : ReadIntoBuffers) (out : List ℕ) (p q : Text) (e : q ≡ show (li
   unfolding readText
   read-no h = rw (ne-eqb (a .number) 0 h, append-nil (line (doName 3) (a .number ∷ []))) e
 
-  pub read-yes : (r : Text) → a .number ≡ 0
-      → r ≡ show (entryLines (wholeRows entryLen (take (a .used) out)) ++ rangeLines (take (a .reader .«reader_state» .len) (a .reader .«reader_state» .ranges))) q
+  pub read-yes : (o r : Text) → a .number ≡ 0 → o ≡ show (freeLine (a .free)) q
+      → r ≡ show (entryLines (wholeRows entryLen (take (a .used) out)) ++ rangeLines (take (a .reader .«reader_state» .len) (a .reader .«reader_state» .ranges))) o
       → r ≡ show (readText a out) p
   unfolding readText
-  read-yes r h f = rw (eq-eqb (a .number) 0 h) (show-both _ _ p q r e f)
+  read-yes o r h g f = rw (eq-eqb (a .number) 0 h) (show-both _ _ p q r e (show-both _ _ q o r g f))
 
 module _ (s : Session) (a : ReadIntoBuffers) (out : List ℕ) (x : ReadAllResult) (e : record { answer = a; out = out } ≡ x) where
   pub read-leaves : (text m : List ℕ) (r : ℕ) → record { at = r; bytes = m } ≡ show (readText a out) (record { at = s .at; bytes = text })

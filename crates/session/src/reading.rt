@@ -139,8 +139,10 @@ fn put_read(text: &mut [u8], at: usize, entries: &[u8], answer: ReadIntoBuffers)
     if number != 0 {
         return to;
     }
+    let free = answer.free;
+    let next = lines::put_free(&mut *text, to, free);
     let reader = answer.reader;
-    put_answer(text, to, entries, answer.used, reader.reader_state)
+    put_answer(text, next, entries, answer.used, reader.reader_state)
 }
 
 fn mode_of(d: u8) -> GetNextMessageGroupMode

@@ -1,4 +1,5 @@
--- Document 01's sample session, as it computes from the definition: the seven records give its seven lines;
+-- Document 01's sample session, as it computes from the definition: the seven records give its seven lines, with
+-- ticket 7's `free 0` behind `read 0`;
 -- and two inputs that are refused.
 use Prim.Native.Nat.{ℕ}
 use mathlib.Core.Path.{_≡_, refl}
@@ -14,9 +15,9 @@ use Rattle.externals_reader.specs.Calls.{allRead, askedOfRead, newCall, readAll
 use Rattle.reader_rules.specs.Each.{each}
 use Rattle.reader_rules.specs.Rules.{afterTurn, withNextRange, beforeSkipOffsets, isSkipped, modeFor, nextRange, partitionsEntered, rangesRead, settled, sums, turn, turns, wantsNext, withDefault}
 use Rattle.reader_rules.specs.State.{settingsNumber, soundRangesFrom as externals-reader-soundFrom, stateNumber}
-use Rattle.lines.specs.Lines.{badLine, endLine, entryLine, entryLines, rangeLine, rangeLines}
+use Rattle.lines.specs.Lines.{badLine, endLine, freeLine, entryLine, entryLines, rangeLine, rangeLines}
 use Rattle.text.specs.Shown.{decimal, line, places, spaced}
-use Rattle.messages_buffer.specs.Fullness.{allLimited, buffers, every, firstNo, isFull, limitedNumber, limitsNumber, partitionsNumber, rangeFull}
+use Rattle.messages_buffer.specs.Fullness.{allLimited, buffers, every, firstNo, freeIn, limitedNumber, limitsNumber, partitionsNumber, rangeFree, smallest}
 use Rattle.range_reader.specs.Calls.{askedNumber, rangeRead}
 use Rattle.range_rules.specs.Rules.{advanced, anchorRead, anchorsRead, bufferOne, buffered, entryBytes, expired, finished, judge, looked, messageRead, messagesRead, ourRead, readOne, stopped}
 use Rattle.records.specs.Records.{anchorIn, asStated, authorOf, byteWithin, inPlace, limitsOf, paramsOf, recordNumber, shardOf}
@@ -70,11 +71,12 @@ do-record d = 5 ∷ 0 ∷ d ∷ []
 abbrev pub lent : Lent
 lent = record { tables = replicate tablesBytes 0; area = replicate areaBytes 0; routes = replicate 8704 0; entries = replicate 26624 0 }
 
--- open 0, read 0, add 5 0 1 1 1000, add 5 0 2 1 2000, range 5 2 1 2 1 0, close 0, end 2 2 1
-pub the-sample-session-prints-its-seven-lines :
+-- open 0, read 0, free 0, add 5 0 1 1 1000, add 5 0 2 1 2000, range 5 2 1 2 1 0, close 0, end 2 2 1
+pub the-sample-session-prints-its-eight-lines :
     sessionText lent newSession noReader (shard-record ∷ settings-record ∷ anchor-1 ∷ anchor-2 ∷ do-record 1 ∷ do-record 3 ∷ do-record 7 ∷ [])
     ≡ 111 ∷ 112 ∷ 101 ∷ 110 ∷ 32 ∷ 48 ∷ 10
     ∷ 114 ∷ 101 ∷ 97 ∷ 100 ∷ 32 ∷ 48 ∷ 10
+    ∷ 102 ∷ 114 ∷ 101 ∷ 101 ∷ 32 ∷ 48 ∷ 10
     ∷ 97 ∷ 100 ∷ 100 ∷ 32 ∷ 53 ∷ 32 ∷ 48 ∷ 32 ∷ 49 ∷ 32 ∷ 49 ∷ 32 ∷ 49 ∷ 48 ∷ 48 ∷ 48 ∷ 10
     ∷ 97 ∷ 100 ∷ 100 ∷ 32 ∷ 53 ∷ 32 ∷ 48 ∷ 32 ∷ 50 ∷ 32 ∷ 49 ∷ 32 ∷ 50 ∷ 48 ∷ 48 ∷ 48 ∷ 10
     ∷ 114 ∷ 97 ∷ 110 ∷ 103 ∷ 101 ∷ 32 ∷ 53 ∷ 32 ∷ 50 ∷ 32 ∷ 49 ∷ 32 ∷ 50 ∷ 32 ∷ 49 ∷ 32 ∷ 48 ∷ 10
@@ -85,14 +87,14 @@ unfolding sessionText addCall addNumber answer closeCall openCall popsCall refus
     soundRow total anchorRow anchors infoRow infos view withMessages addedArea addedCache addedTables inCache inHistory poppedCache poppedTimes
     keyAbove keyEqual allRead askedOfRead newCall readAllCall readerNumber settledNumber windowRead each afterTurn withNextRange beforeSkipOffsets
     isSkipped modeFor nextRange partitionsEntered rangesRead settled sums turn turns wantsNext withDefault settingsNumber
-    externals-reader-soundFrom stateNumber decimal endLine entryLine entryLines line places rangeLine rangeLines spaced allLimited buffers every
-    firstNo isFull limitedNumber limitsNumber partitionsNumber rangeFull askedNumber rangeRead advanced anchorRead anchorsRead bufferOne buffered
+    externals-reader-soundFrom stateNumber decimal endLine freeLine entryLine entryLines line places rangeLine rangeLines spaced allLimited buffers every
+    firstNo freeIn limitedNumber limitsNumber partitionsNumber rangeFree smallest askedNumber rangeRead advanced anchorRead anchorsRead bufferOne buffered
     entryBytes expired finished judge looked messageRead messagesRead ourRead readOne stopped anchorIn asStated authorOf byteWithin inPlace
     limitsOf paramsOf recordNumber shardOf firstPartition noneTwice partitionOf partitionsExist routesNumber soundRoutes rows-appended le numAt
     rows word written noReader plainOutcome reachesReader readSaid readText readerEntries readerOutcome readerReader readerSaid settingsDone
     shardDone stepOf takenOutcome anchorTaken anchorNumber anchorSaid areaAfter cacheSaid called doName endSaid isRead isTaken afterOrBad newSession
     recordCounted plainArea plainRoutes plainSaid plainTables tablesAfter bigEndian isOurs isShard lowestSet sameAboveTag sameBits sameWorkchain
-the-sample-session-prints-its-seven-lines = refl
+the-sample-session-prints-its-eight-lines = refl
 
 -- bad 2 17
 pub a-second-shard-is-bad : (l : Lent) → sessionText l newSession noReader (shard-record ∷ shard-record ∷ do-record 1 ∷ []) ≡ 98 ∷ 97 ∷ 100 ∷ 32 ∷ 50 ∷ 32 ∷ 49 ∷ 55 ∷ 10 ∷ []

@@ -17,9 +17,9 @@ use Rattle.reader_rules.specs.declared.GetNextMessageGroupMode.{GetNextMessageG
 use Rattle.externals_reader.specs.declared.ReadIntoBuffers.{ReadIntoBuffers}
 use Rattle.externals_reader.specs.Calls.{ReadAllResult, askedOfRead, allRead, readAllCall}
 use Rattle.text.specs.Shown.{places, decimal, spaced, line}
-use Rattle.lines.specs.Lines.{entryLines, rangeLines}
+use Rattle.lines.specs.Lines.{freeLine, entryLines, rangeLines}
 use Rattle.text.proofs.Lengths.{line-length, a-text-that-fits-is-shown-whole}
-use Rattle.lines.proofs.Lengths.{entry-lines-length, range-lines-length, bad-line-length}
+use Rattle.lines.proofs.Lengths.{free-line-length, entry-lines-length, range-lines-length, bad-line-length}
 use Rattle.session_rules.specs.declared.Session.{Session}
 use Rattle.session_rules.specs.Said.{Said, printed, withAt, recordCounted, nothingSaid, badSaid, afterOrBad, malformedSaid, routeSaid, anchorSaid, isRead, doName, cacheSaid, isTaken, plainSaid, endSaid}
 use Rattle.session_rules.proofs.TextLengths.{a-plain-record-says-at-most-46-bytes, a-malformed-record-says-at-most-46-bytes}
@@ -76,21 +76,25 @@ read-line : length (line (doName 3) (0 ∷ [])) ≡ 7
 unfolding line spaced decimal places doName isRead
 read-line = refl
 
-pub a-read's-text-fits : (a : ReadIntoBuffers) (out : List ℕ) → length out ≤ 26624 → length (a .reader .«reader_state» .ranges) ≤ maxRanges → length (readText a out) ≤ 113735
+pub a-read's-text-fits : (a : ReadIntoBuffers) (out : List ℕ) → length out ≤ 26624 → length (a .reader .«reader_state» .ranges) ≤ maxRanges → length (readText a out) ≤ 113761
 unfolding readText doName isRead
 a-read's-text-fits a out h k = go (a .number) (eqb (a .number) 0) refl
   where
+    free : List ℕ
+    free = freeLine (a .free)
+
     entries : List ℕ
     entries = entryLines (wholeRows entryLen (take (a .used) out))
 
     ranges : List ℕ
     ranges = rangeLines (take (a .reader .«reader_state» .len) (a .reader .«reader_state» .ranges))
 
-    go : (n : ℕ) (b : Bool) → eqb n 0 ≡ b → length (line (doName 3) (n ∷ []) ++ pick b (entries ++ ranges) []) ≤ 113735
+    go : (n : ℕ) (b : Bool) → eqb n 0 ≡ b → length (line (doName 3) (n ∷ []) ++ pick b (free ++ (entries ++ ranges)) []) ≤ 113761
     go n true e =
         let m = entries-length (a .used) out h in
         let o = ranges-length a k in
-        rw (eqb-true n 0 e, length-append (line (doName 3) (0 ∷ [])) (entries ++ ranges), length-append entries ranges, read-line) (omega arith)
+        let f = free-line-length (a .free) in
+        rw (eqb-true n 0 e, length-append (line (doName 3) (0 ∷ [])) (free ++ (entries ++ ranges)), length-append free (entries ++ ranges), length-append entries ranges, read-line) (omega arith)
     go n false e =
         let m = line-length (doName 3) (n ∷ []) in
         rw (length-append (line (doName 3) (n ∷ [])) []) (omega arith)
@@ -122,7 +126,7 @@ malformed-at s = pick-both (At (s .at)) (s .stopped) (nothingSaid s) (badSaid (r
 
 -- ---- one record
 module _ (l : Lent) (s : Session) (r : ExternalsReader) (kind : ℕ) (p : List ℕ) where
-  reader-fits : length (l .entries) ≤ 26624 → length (readerReader l s r kind p .«reader_state» .ranges) ≤ maxRanges → length (readerSaid l s r kind p .text) ≤ 113735
+  reader-fits : length (l .entries) ≤ 26624 → length (readerReader l s r kind p .«reader_state» .ranges) ≤ maxRanges → length (readerSaid l s r kind p .text) ≤ 113761
   unfolding readerSaid readerReader readSaid
   reader-fits h = go (eqb kind 1) (eqb kind 3) (hasRoutes l s)
     where
@@ -131,7 +135,7 @@ module _ (l : Lent) (s : Session) (r : ExternalsReader) (kind : ℕ) (p : List �
 
       go : (shard settings routes : Bool)
           → length (pick shard (doneReader r (shardDone r p)) (pick settings (doneReader r (settingsDone r p)) (pick routes (a .answer .reader) r)) .«reader_state» .ranges) ≤ maxRanges
-          → length (pick shard (doneSaid s (shardDone r p)) (pick settings (doneSaid s (settingsDone r p)) (pick routes (readSaid s a) (badSaid s 3))) .text) ≤ 113735
+          → length (pick shard (doneSaid s (shardDone r p)) (pick settings (doneSaid s (settingsDone r p)) (pick routes (readSaid s a) (badSaid s 3))) .text) ≤ 113761
       go true settings routes k = let m = after-or-bad-short s s (shardDone r p .number) in omega arith
       go false true routes k = let m = after-or-bad-short s s (settingsDone r p .number) in omega arith
       go false false true k =
@@ -139,17 +143,17 @@ module _ (l : Lent) (s : Session) (r : ExternalsReader) (kind : ℕ) (p : List �
           a-read's-text-fits (a .answer) (a .out) (omega arith) k
       go false false false k = let m = bad-short s 3 in omega arith
 
-  taken-fits : length (l .entries) ≤ 26624 → length (takenOutcome l s r kind p .reader .«reader_state» .ranges) ≤ maxRanges → length (takenOutcome l s r kind p .said .text) ≤ 113735
+  taken-fits : length (l .entries) ≤ 26624 → length (takenOutcome l s r kind p .reader .«reader_state» .ranges) ≤ maxRanges → length (takenOutcome l s r kind p .said .text) ≤ 113761
   unfolding takenOutcome readerOutcome plainOutcome
   taken-fits h = go (reachesReader kind (getD p 0 0))
     where
       go : (b : Bool) → length (pick b (readerOutcome l s r kind p) (plainOutcome l s r kind p) .reader .«reader_state» .ranges) ≤ maxRanges
-          → length (pick b (readerOutcome l s r kind p) (plainOutcome l s r kind p) .said .text) ≤ 113735
+          → length (pick b (readerOutcome l s r kind p) (plainOutcome l s r kind p) .said .text) ≤ 113761
       go true k = reader-fits h k
       go false k = let m = a-plain-record-says-at-most-46-bytes (l .tables) (l .area) (l .routes) s kind p in omega arith
 
 module _ (l : Lent) (s : Session) (r : ExternalsReader) (rec : List ℕ) where
-  pub every-record's-text-fits : length (l .entries) ≤ 26624 → length (stepOf l s r rec .reader .«reader_state» .ranges) ≤ maxRanges → length (stepOf l s r rec .said .text) ≤ 113735
+  pub every-record's-text-fits : length (l .entries) ≤ 26624 → length (stepOf l s r rec .reader .«reader_state» .ranges) ≤ maxRanges → length (stepOf l s r rec .said .text) ≤ 113761
   unfolding stepOf
   every-record's-text-fits h = go (isTaken s rec)
     where
@@ -159,7 +163,7 @@ module _ (l : Lent) (s : Session) (r : ExternalsReader) (rec : List ℕ) where
       malformed : StepOutcome
       malformed = record { said = malformedSaid s; reader = r; lent = l }
 
-      go : (b : Bool) → length (pick b taken malformed .reader .«reader_state» .ranges) ≤ maxRanges → length (pick b taken malformed .said .text) ≤ 113735
+      go : (b : Bool) → length (pick b taken malformed .reader .«reader_state» .ranges) ≤ maxRanges → length (pick b taken malformed .said .text) ≤ 113761
       go true k = taken-fits l (recordCounted s) r (numAt 2 0 rec) (drop 2 rec) h k
       go false k = let m = a-malformed-record-says-at-most-46-bytes s in omega arith
 
@@ -174,7 +178,7 @@ module _ (l : Lent) (s : Session) (r : ExternalsReader) (rec : List ℕ) where
       (pick-both P (reachesReader kind (getD p 0 0)) _ _ (reader-at l (recordCounted s) r kind p) (plain-at (l .tables) (l .area) (l .routes) (recordCounted s) kind p))
       (malformed-at s)
 
-  pub every-record's-text-is-shown-whole : length (l .entries) ≤ 26624 → length (stepOf l s r rec .reader .«reader_state» .ranges) ≤ maxRanges → (bytes : List ℕ) → s .at + 113735 ≤ length bytes
+  pub every-record's-text-is-shown-whole : length (l .entries) ≤ 26624 → length (stepOf l s r rec .reader .«reader_state» .ranges) ≤ maxRanges → (bytes : List ℕ) → s .at + 113761 ≤ length bytes
       → printed (stepOf l s r rec .said) bytes
       ≡ record { session = withAt (stepOf l s r rec .said .session) (s .at + length (stepOf l s r rec .said .text)); bytes = sets bytes (s .at) (stepOf l s r rec .said .text) }
   every-record's-text-is-shown-whole h k bytes room =

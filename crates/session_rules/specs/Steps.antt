@@ -21,7 +21,7 @@ use Rattle.reader_rules.specs.Rules.{rangeFrom}
 use Rattle.externals_reader.specs.Calls.{handedIn, newCall, ReadAllResult, readAllCall}
 use Rattle.records.specs.Records.{shardOf, limitsIn, paramsOf, limitsOf}
 use Rattle.text.specs.Shown.{line}
-use Rattle.lines.specs.Lines.{entryLines, rangeLines}
+use Rattle.lines.specs.Lines.{freeLine, entryLines, rangeLines}
 use Rattle.session_rules.specs.declared.Session.{Session}
 use Rattle.session_rules.specs.Said.{withTransaction, recordCounted, Said, badSaid, afterOrBad, malformedSaid, printed, isRead, doName, plainSaid, plainTables, plainArea, plainRoutes, isTaken}
 
@@ -71,12 +71,13 @@ doneReader r d = pick (eqb (d .number) 0) (d .reader) r
 abbrev pub modeOf : ℕ → GetNextMessageGroupMode
 modeOf d = pick (eqb d 4) Refill Continue
 
--- after a read answering 0: `add` for each output entry, `range` for each range
+-- after a read answering 0: `free` where a range was read, `add` for each output entry, `range` for each range
 unfoldable pub readText : ReadIntoBuffers → List ℕ → List ℕ
 readText a out =
     line (doName 3) (a .number ∷ [])
     ++ pick (eqb (a .number) 0)
-    (entryLines (wholeRows entryLen (take (a .used) out)) ++ rangeLines (take (a .reader .«reader_state» .len) (a .reader .«reader_state» .ranges)))
+    (freeLine (a .free)
+    ++ (entryLines (wholeRows entryLen (take (a .used) out)) ++ rangeLines (take (a .reader .«reader_state» .len) (a .reader .«reader_state» .ranges))))
     []
 
 unfoldable pub readSaid : Session → ReadAllResult → Said

@@ -257,11 +257,14 @@ impl Driver<'_> {
     fn all(&mut self, mode: Mode) {
         let mut out = self.output();
         let (routes, places) = (self.routes.clone(), self.message_places());
-        let answer = self.lent(|e| e.read_into_buffers(mode, &routes, &mut out).map(|(counts, used)| (counts, used.len())));
+        let answer = self.lent(|e| e.read_into_buffers(mode, &routes, &mut out).map(|(counts, free, used)| (counts, free, used.len())));
         self.line("read", &answer);
-        let used = answer.map_or(0, |(_, used)| used);
+        let used = answer.map_or(0, |(_, _, used)| used);
         assert!(out[used..].iter().all(|&b| b == FILL), "bytes beyond those used have changed");
-        if let Ok((counts, used)) = answer {
+        if let Ok((counts, free, used)) = answer {
+            if let Some(places) = free {
+                writeln!(self.text, "free {places}").unwrap();
+            }
             self.entries(&out[..used], &places);
             self.counts(&counts);
             for r in self.e.ranges() {
@@ -293,8 +296,13 @@ impl Driver<'_> {
         self.line("one", &answer);
         let used = answer.map_or(0, |a| a.used);
         assert!(out[used..].iter().all(|&b| b == FILL), "bytes beyond those used have changed");
+        let limits = BufferLimits { by_partitions: settings.limits };
+        if answer == Err(Refused(10)) {
+            assert_eq!(get_max_buffers_fill_state(limits, range), Err(Refused(10)));
+        }
         if let Ok(a) = answer {
-            writeln!(self.text, "answer {} {}", time(a.last_chain_time), u8::from(a.full)).unwrap();
+            assert_eq!(get_max_buffers_fill_state(limits, range), Ok(a.free));
+            writeln!(self.text, "answer {} {}", time(a.last_chain_time), a.free).unwrap();
             self.counts(&a.counts);
             self.entries(&out[..a.used], &places);
         }

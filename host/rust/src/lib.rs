@@ -77,6 +77,13 @@ pub fn get_partition(routes: &[u8], message: &[u8]) -> Result<u8, Refused> {
     done(p.number, p.partition)
 }
 
+/// The free places of a range: the fewest that one of its buffers has left, 0 where one is full; 1,024 where it has no
+/// partition.
+pub fn get_max_buffers_fill_state(limits: BufferLimits, range: Range) -> Result<u16, Refused> {
+    let f = unsafe { raw::ext_get_max_buffers_fill_state(limits, range) };
+    done(f.number, f.free)
+}
+
 pub struct Externals {
     state: Box<State>,
     tables: Box<[u8]>,
@@ -238,12 +245,13 @@ impl Externals {
         flag(unsafe { raw::ext_check_has_pending_externals_in_range(self.tables.as_ptr(), self.tables.len(), self.state.transaction, up_to) })
     }
 
-    /// Reads all ranges: the counts, and the used part of `out`, which holds the entries.
-    pub fn read_into_buffers<'o>(&mut self, mode: Mode, routes: &[u8], out: &'o mut [u8]) -> Result<(Counts, &'o [u8]), Refused> {
+    /// Reads all ranges: the counts, the free places of the last range read (none if no range was), and the used part
+    /// of `out`, which holds the entries.
+    pub fn read_into_buffers<'o>(&mut self, mode: Mode, routes: &[u8], out: &'o mut [u8]) -> Result<(Counts, Option<u16>, &'o [u8]), Refused> {
         let a = unsafe {
             raw::ext_read_into_buffers(&mut *self.state, out.as_mut_ptr(), out.len(), self.tables.as_ptr(), self.tables.len(), self.area.as_ptr(), self.area.len(), routes.as_ptr(), routes.len(), mode == Mode::Refill)
         };
-        done(a.number, (a.counts, &out[..a.used]))
+        done(a.number, (a.counts, a.free.present.then_some(a.free.places), &out[..a.used]))
     }
 
     /// Reads one range, which the host holds itself; the pops are made on the cache.

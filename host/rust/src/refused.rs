@@ -166,6 +166,7 @@ calls! {
     all_collected [0 5] |l, t, a| raw::ext_all_read_externals_collected(l.state.reader).number;
     last_offsets [0 5] |l, t, a| raw::ext_get_last_range_state_offsets_by_partitions(l.state.reader).number;
     has_pending [0 5] |l, t, a| raw::ext_has_pending_externals(t.0, t.1, l.state.transaction, l.state.reader).number;
+    fill_state [0 4 5 10] |l, t, a| raw::ext_get_max_buffers_fill_state(l.limits, l.range).number;
     read_all [0 1 2 3 4 5 9 10 11 12 13 14] |l, t, a| {
         let o = bytes(&mut l.out);
         raw::ext_read_into_buffers(&mut l.state, o.0, o.1, t.0, t.1, a.0, a.1, l.routes.as_ptr(), l.routes.len(), false).number

@@ -72,8 +72,12 @@ plain! {
     pub struct AnchorShown { pub number: u8, pub found: bool, pub anchor: CachedAnchor, pub author: [u8; 32], } 80
     pub struct InfoShown { pub number: u8, pub found: bool, pub info: AnchorInfo, pub author: [u8; 32], } 64
     pub struct PartitionShown { pub number: u8, pub partition: u8, } 2
-    pub struct AllAnswer { pub number: u8, pub used: usize, pub counts: Counts, } 112
-    pub struct RangeAnswer { pub number: u8, pub full: bool, pub last_chain_time: SavedTime, pub pops: usize, pub used: usize, pub counts: Counts, } 136
+    /// The free places of a range: the fewest that one of its buffers has left; 1,024 where it has no partition.
+    pub struct FreeAnswer { pub number: u8, pub free: u16, } 4
+    /// Those of the last range that a read of all ranges has read; not present where it read none.
+    pub struct Free { pub present: bool, pub places: u16, } 4
+    pub struct AllAnswer { pub number: u8, pub free: Free, pub used: usize, pub counts: Counts, } 112
+    pub struct RangeAnswer { pub number: u8, pub free: u16, pub last_chain_time: SavedTime, pub pops: usize, pub used: usize, pub counts: Counts, } 136
     pub struct ByPartitions { pub number: u8, pub values: [u32; PARTITIONS], pub present: [bool; PARTITIONS], } 44
     pub struct PartitionIds { pub number: u8, pub present: [bool; PARTITIONS], } 9
     pub struct NextRange { pub number: u8, pub range: Range, } 208

@@ -29,7 +29,8 @@ fn the_sample_session() {
     let mut e = sample();
     let mut out = vec![0; 1024 * ENTRY_BYTES];
     assert_eq!(e.open(), Ok(()));
-    let (counts, used) = e.read_into_buffers(Mode::Continue, &[], &mut out).unwrap();
+    let (counts, free, used) = e.read_into_buffers(Mode::Continue, &[], &mut out).unwrap();
+    assert_eq!(free, Some(0));
     let shown: Vec<_> = entries(used).map(|x| (x.seqno, x.partition, x.anchor_id, x.offset, x.chain_time.0)).collect();
     assert_eq!(shown, [(5, 0, 1, 1, 1000), (5, 0, 2, 1, 2000)]);
     assert_eq!(counts.buffered[0], 2);
@@ -85,9 +86,60 @@ fn one_range() {
     };
     let mut out = vec![0; 1024 * ENTRY_BYTES];
     let a = e.read_externals_into_buffers(&mut range, settings, &[], &mut out).unwrap();
-    assert_eq!((a.used, a.full, a.pops, a.last_chain_time.time), (2 * ENTRY_BYTES, true, 1, ChainTime(2000)));
+    assert_eq!((a.used, a.free, a.pops, a.last_chain_time.time), (2 * ENTRY_BYTES, 0, 1, ChainTime(2000)));
     assert_eq!(range.current_position, ExternalKey { anchor_id: 2, msgs_offset: 1 });
     assert_eq!(e.transaction().cache.len, 1);
+}
+
+/// Limits 4 and 9, no message in a buffer yet; the range that the reader will make.
+fn free_places() -> (Externals, BufferLimits, Range) {
+    let mut e = sample();
+    let mut limits = BufferLimits { by_partitions: e.reader().buffer_limits_by_partitions };
+    (limits.by_partitions[0], limits.by_partitions[1]) = (4, 9);
+    e.reader_mut().buffer_limits_by_partitions = limits.by_partitions;
+    e.renew(*e.reader()).unwrap();
+    let range = e.create_next_externals_range_state().unwrap();
+    (e, limits, range)
+}
+
+#[test]
+fn free_places_of_a_range() {
+    let (_, limits, mut range) = free_places();
+    assert_eq!(get_max_buffers_fill_state(limits, range), Ok(4));
+    (range.by_partitions[0].count, range.by_partitions[1].count) = (1, 7);
+    assert_eq!(get_max_buffers_fill_state(limits, range), Ok(2));
+    for full in [9, 10, 1024] {
+        range.by_partitions[1].count = full;
+        assert_eq!(get_max_buffers_fill_state(limits, range), Ok(0));
+    }
+    range.by_partitions[1].count = 1025;
+    assert_eq!(get_max_buffers_fill_state(limits, range), Err(Refused(5)));
+    range.by_partitions[1].present = false;
+    assert_eq!(get_max_buffers_fill_state(limits, range), Ok(3));
+    let mut other = limits;
+    other.by_partitions[0] = NO_LIMIT;
+    assert_eq!(get_max_buffers_fill_state(other, range), Err(Refused(10)));
+    other.by_partitions[0] = 1025;
+    assert_eq!(get_max_buffers_fill_state(other, range), Err(Refused(4)));
+    other.by_partitions = [0; PARTITIONS];
+    assert_eq!(get_max_buffers_fill_state(other, range), Ok(0));
+    range.by_partitions[0].present = false;
+    assert_eq!(get_max_buffers_fill_state(other, range), Ok(1024));
+}
+
+#[test]
+fn free_places_of_a_read() {
+    let (mut e, limits, _) = free_places();
+    let mut out = vec![0; 1024 * ENTRY_BYTES];
+    e.open().unwrap();
+    // no range yet: a refill reads none; nor does a read once the mark is set
+    assert_eq!(e.read_into_buffers(Mode::Refill, &[], &mut out).unwrap().1, None);
+    assert_eq!(e.read_into_buffers(Mode::Continue, &[], &mut out).unwrap().1, None);
+    e.reset_read_state().unwrap();
+    assert_eq!(e.read_into_buffers(Mode::Continue, &[], &mut out).unwrap().1, Some(1));
+    assert_eq!(get_max_buffers_fill_state(limits, e.ranges()[0]), Ok(1));
+    e.messages_taken(5, 0, 2).unwrap();
+    assert_eq!(get_max_buffers_fill_state(limits, e.ranges()[0]), Ok(3));
 }
 
 #[test]

@@ -24,11 +24,11 @@ all-limited-requires c κs = search needs
 returns-3 : tie.Need-returns-3
 returns-3 c = refused-without-limit _ _ (sym (c .before .before .before .before .before .check-limits .ensures) ∙ c .before .before .before .before .if1 .left) (sym (c .before .before .before .check-partitions .ensures) ∙ c .before .before .if2 .left) (sym (c .before .all-limited .ensures) ∙ not-true _ (c .if3 .taken))
 
-any-full-requires : tie.Need-any-full-requires
-any-full-requires c κs = search needs
+range-free-requires : tie.Need-range-free-requires
+range-free-requires c κs = search needs
 
 returns-4 : tie.Need-returns-4
-returns-4 c = rw (c .any-full .ensures) (answered _ _ (sym (c .before .before .before .before .before .before .check-limits .ensures) ∙ c .before .before .before .before .before .if1 .left) (sym (c .before .before .before .before .check-partitions .ensures) ∙ c .before .before .before .if2 .left) (sym (c .before .before .all-limited .ensures) ∙ not-false _ (c .before .if3 .left)))
+returns-4 c = rw (c .range-free .ensures) (answered _ _ (sym (c .before .before .before .before .before .before .check-limits .ensures) ∙ c .before .before .before .before .before .if1 .left) (sym (c .before .before .before .before .check-partitions .ensures) ∙ c .before .before .before .if2 .left) (sym (c .before .before .all-limited .ensures) ∙ not-false _ (c .before .if3 .left)))
 
 pub get-max-buffers-fill-state-spec : {M : Type 1} → statement M
 get-max-buffers-fill-state-spec =
@@ -40,5 +40,5 @@ get-max-buffers-fill-state-spec =
     returns-2
     all-limited-requires
     returns-3
-    any-full-requires
+    range-free-requires
     returns-4)

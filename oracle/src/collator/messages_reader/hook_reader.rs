@@ -11,6 +11,7 @@ use tycho_types::models::MsgsExecutionParams;
 use super::*;
 use crate::collator::anchors_cache::AnchorsCache;
 use crate::collator::messages_buffer::MessagesBuffer;
+use crate::questions::MAX_LIMIT;
 
 #[path = "hook_bench.rs"]
 pub mod bench;
@@ -237,20 +238,21 @@ impl Kept {
         res
     }
 
-    /// The original `read_into_buffers`.
+    /// The original `read_into_buffers`: the counts, and the last range that it read.
     pub fn read(
         &mut self,
         tx: &mut AnchorsCacheTransaction<'_>,
         refill: bool,
         router: &PartitionRouter,
-    ) -> Result<BTreeMap<u16, Counts>> {
+    ) -> Result<(BTreeMap<u16, Counts>, Option<u32>)> {
         let mode = if refill {
             GetNextMessageGroupMode::Refill
         } else {
             GetNextMessageGroupMode::Continue
         };
+        tracing::forget();
         let metrics = self.call(tx, |r| r.read_into_buffers(mode, router))?;
-        Ok(counts_of(&metrics))
+        Ok((counts_of(&metrics), tracing::last_range_read()))
     }
 
     /// What is in the buffers now that was not in `before`'s, range by range in the order
@@ -364,7 +366,7 @@ impl Kept {
     }
 
     /// The original `read_externals_into_buffers` on one range, with what
-    /// `read_into_buffers` would hand it.
+    /// `read_into_buffers` would hand it: the last chain time, whether a buffer is full, the counts.
     pub fn read_one(
         &mut self,
         tx: &mut AnchorsCacheTransaction<'_>,
@@ -397,6 +399,16 @@ impl Kept {
         )?;
         let full = res.max_fill_state_by_count == BufferFillStateByCount::IsFull;
         Ok((res.last_read_to_anchor_chain_time, full, counts_of(&res.metrics_by_partitions)))
+    }
+
+    /// The fewest places left in a buffer of the range, by the original's counts and limits; 1,024 where
+    /// it has none. (The original tells only whether one is full.)
+    pub fn free(&self, seqno: u32) -> usize {
+        let range = self.state.ranges.get(&seqno).expect("it was read");
+        let left = |(id, p): (&QueuePartitionIdx, &ExternalsPartitionRangeReaderState)| {
+            self.buffer_limits_by_partitions[id].max_count.saturating_sub(p.buffer.msgs_count())
+        };
+        range.by_partitions.iter().map(left).min().unwrap_or(MAX_LIMIT.into())
     }
 
     /// The other public functions, by number. `Err` where the original errs.

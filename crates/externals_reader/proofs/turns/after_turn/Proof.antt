@@ -10,11 +10,11 @@ returns c = done-refused _ _ _ _ (c .if1 .taken)
 added-requires : tie.Need-added-requires
 added-requires c κs = search needs
 
-add-t11 : tie.Need-add-t11
-add-t11 c = search needs
-
 add-t12 : tie.Need-add-t12
 add-t12 c = search needs
+
+add-t13 : tie.Need-add-t13
+add-t13 c = search needs
 
 all-read-requires : tie.Need-all-read-requires
 all-read-requires c κs = search needs
@@ -34,8 +34,8 @@ after-turn-spec =
     (tie.spec
     returns
     added-requires
-    add-t11
     add-t12
+    add-t13
     all-read-requires
     stops-requires
     settled-requires

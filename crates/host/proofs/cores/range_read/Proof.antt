@@ -30,7 +30,7 @@ returns c =
     c-read-externals-into-buffers .ensures
     ∙ ap (λ (m : ReadNextExternalsMode). readCall (x .tables .now) (x .area .now) (x .e .transaction) (s .shard) (x .routes .now) (s .limits) (s .processed) (s .timeout) m (x .e .range) (x .out .now)) (c .before .before .before .before .before .before .before .before .range-mode .ensures)
     in (
-      ap (λ (l : SavedTime). record { answer = record { number = a .number; full = a .full; «last_chain_time» = l; pops = a .pops; used = a .used; counts = a .counts }; state = record { transaction = a .state; range = a .range } }) (c .saved-time .ensures)
+      ap (λ (l : SavedTime). record { answer = record { number = a .number; free = a .free; «last_chain_time» = l; pops = a .pops; used = a .used; counts = a .counts }; state = record { transaction = a .state; range = a .range } }) (c .saved-time .ensures)
           ∙ ap (λ (q : ReadResult). readRangeShown (q .answer)) e,
       ap (λ (q : ReadResult). q .out) e,
     )

@@ -15,8 +15,8 @@ put-last-requires c κs = search needs
 slice-aggregate-put-line : tie.Need-slice-aggregate-put-line
 slice-aggregate-put-line c = search needs
 
-cast-t24 : tie.Need-cast-t24
-cast-t24 c = search needs
+places-requires : tie.Need-places-requires
+places-requires c κs = search needs
 
 slice-aggregate-put-line-2 : tie.Need-slice-aggregate-put-line-2
 slice-aggregate-put-line-2 c = search needs
@@ -44,7 +44,7 @@ put-one-spec =
     put-requires
     put-last-requires
     slice-aggregate-put-line
-    cast-t24
+    places-requires
     slice-aggregate-put-line-2
     put-line-requires
     put-counts-requires

@@ -1,6 +1,7 @@
 -- Each return is one case of step 6.
 use Rattle.range_reader.proofs.AnchorLaws.{finish-refused, finish-end, finish-full, finish-next, finish-eleven}
 use mathlib.Core.Path.{sym, _∙_}
+use borrow.Author.Tests.{eq-eqb, ne-eqb}
 use borrow.Author.Needs.{needs}
 use Rattle.range_reader.proofs.anchors.finished.Statement.{statement}
 use Rattle.range_reader.proofs.anchors.finished.Tie as tie
@@ -34,18 +35,18 @@ leave-requires-3 c κs = search needs
 
 returns-3 : tie.Need-returns-3
 returns-3 c =
-    let c-args = c .before .before .before .before .before .before .before .before .before .before .before .args in
-    let c-after-pop = c .before .before .before .before .before .before .after-pop in
-    finish-full (c-args .x) (c-args .time) (c-args .count) (c-args .w) (c-args .r) (c-after-pop .result) (c-after-pop .ensures) _ (c .before .before .before .before .if1 .left) (sym (c .before .before .before .ends .ensures) ∙ c .before .before .if2 .left) (c .before .if3 .taken) (c .leave3 .ensures)
+    let c-args = c .before .before .before .before .before .before .before .before .before .before .before .before .args in
+    let c-after-pop = c .before .before .before .before .before .before .before .after-pop in
+    finish-full (c-args .x) (c-args .time) (c-args .count) (c-args .w) (c-args .r) (c-after-pop .result) (c-after-pop .ensures) _ (c .before .before .before .before .before .if1 .left) (sym (c .before .before .before .before .ends .ensures) ∙ c .before .before .before .if2 .left) (eq-eqb (c-args .w .buffers .free) 0 (c .before .if3 .taken)) (c .leave3 .ensures)
 
 leave-requires-4 : tie.Need-leave-requires-4
 leave-requires-4 c κs = search needs
 
 returns-4 : tie.Need-returns-4
 returns-4 c =
-    let c-args = c .before .before .before .before .before .before .before .before .before .before .before .before .args in
-    let c-after-pop = c .before .before .before .before .before .before .before .after-pop in
-    finish-next (c-args .x) (c-args .time) (c-args .count) (c-args .w) (c-args .r) (c-after-pop .result) (c-after-pop .ensures) _ (c .before .before .before .before .before .if1 .left) (sym (c .before .before .before .before .ends .ensures) ∙ c .before .before .before .if2 .left) (c .before .before .if3 .left) (c .before .if4 .taken) (c .leave4 .ensures)
+    let c-args = c .before .before .before .before .before .before .before .before .before .before .before .before .before .args in
+    let c-after-pop = c .before .before .before .before .before .before .before .before .after-pop in
+    finish-next (c-args .x) (c-args .time) (c-args .count) (c-args .w) (c-args .r) (c-after-pop .result) (c-after-pop .ensures) _ (c .before .before .before .before .before .before .if1 .left) (sym (c .before .before .before .before .before .ends .ensures) ∙ c .before .before .before .before .if2 .left) (ne-eqb (c-args .w .buffers .free) 0 (c .before .before .if3 .left)) (c .before .if4 .taken) (c .leave4 .ensures)
 
 refused-with-requires : tie.Need-refused-with-requires
 refused-with-requires c κs = search needs
@@ -55,10 +56,10 @@ leave-requires-5 c κs = search needs
 
 returns-5 : tie.Need-returns-5
 returns-5 c =
-    let c-args = c .before .before .before .before .before .before .before .before .before .before .before .before .before .args in
-    let c-after-pop = c .before .before .before .before .before .before .before .before .after-pop in
+    let c-args = c .before .before .before .before .before .before .before .before .before .before .before .before .before .before .args in
+    let c-after-pop = c .before .before .before .before .before .before .before .before .before .after-pop in
     let c-refused-with = c .before .refused-with in
-    finish-eleven (c-args .x) (c-args .time) (c-args .count) (c-args .w) (c-args .r) (c-after-pop .result) (c-after-pop .ensures) _ (c .before .before .before .before .before .before .if1 .left) (sym (c .before .before .before .before .before .ends .ensures) ∙ c .before .before .before .before .if2 .left) (c .before .before .before .if3 .left) (c .before .before .if4 .left) (c-refused-with .result) (c-refused-with .ensures) (c .leave5 .ensures)
+    finish-eleven (c-args .x) (c-args .time) (c-args .count) (c-args .w) (c-args .r) (c-after-pop .result) (c-after-pop .ensures) _ (c .before .before .before .before .before .before .before .if1 .left) (sym (c .before .before .before .before .before .before .ends .ensures) ∙ c .before .before .before .before .before .if2 .left) (ne-eqb (c-args .w .buffers .free) 0 (c .before .before .before .if3 .left)) (c .before .before .if4 .left) (c-refused-with .result) (c-refused-with .ensures) (c .leave5 .ensures)
 
 pub finished-spec : {M : Type 1} → statement M
 finished-spec =
