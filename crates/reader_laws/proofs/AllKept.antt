@@ -34,7 +34,7 @@ use Rattle.reader_rules.specs.declared.GetNextMessageGroupMode.{GetNextMessageG
 use Rattle.reader_rules.specs.declared.Fixed.{Fixed}
 use Rattle.reader_rules.specs.declared.RangesRead.{RangesRead}
 use Rattle.reader_rules.specs.State.{heldRanges, maxRanges, soundRangesFrom, settledNumber, stateNumber}
-use Rattle.reader_rules.specs.Rules.{fixedOf, atEntry, rangesRead}
+use Rattle.reader_rules.specs.Rules.{Told, fixedOf, atEntry, rangesRead}
 use Rattle.reader_rules.specs.Offsets.{allFullyRead}
 use Rattle.reader_rules.proofs.Kept.{Eight, LeftOf, Sound, a-read-of-all-keeps-question-5}
 use Rattle.reader_rules.proofs.Marks.{the-mark-says-whether-every-range-is-fully-read}
@@ -67,26 +67,38 @@ pub record Shaped (r : ExternalsReader) : Type 0 where
   pub partitions : length (r .«reader_state» .«by_partitions») ≡ 8
   pub ranges : Eight (r .«reader_state» .ranges)
 
-window-left : (tables area : List ℕ) (t : AnchorsCacheTransaction) (routes : List ℕ) (x : Fixed) → length (x .limits) ≡ 8 → (pops : ℕ) (mode : ReadNextExternalsMode) (range : ExternalsRangeReaderState) (room : ℕ) → length (range .«by_partitions») ≡ 8
-    → windowRead tables area t routes x pops mode range room .value .number ≡ 0 → LeftOf range (windowRead tables area t routes x pops mode range room .value .range)
-unfolding windowRead
-window-left tables area t routes x eight pops mode range room records = go (eqb number 0) refl
-  where
-    u : AnchorsCacheTransaction
-    u = popsCall (length area) pops tables t .state
+-- one range's read on the window: where it is not refused, the questions were answered "yes", and it tells what the six
+-- steps came to
+module _ (tables area : List ℕ) (t : AnchorsCacheTransaction) (routes : List ℕ) (x : Fixed) (pops : ℕ) (mode : ReadNextExternalsMode) (range : ExternalsRangeReaderState) (room : ℕ) where
+  abbrev before : AnchorsCacheTransaction
+  before = popsCall (length area) pops tables t .state
 
-    s : Outcome RangeRead
-    s = rangeRead tables area u (x .shard) routes (x .limits) (x .processed) (x .params .«externals_expire_timeout») mode range room
+  abbrev steps : Outcome RangeRead
+  steps = rangeRead tables area before (x .shard) routes (x .limits) (x .processed) (x .params .«externals_expire_timeout») mode range room
 
-    number : ℕ
-    number = firstNo (askedNumber tables area u (x .shard) routes (x .limits) range ∷ s .value .walk .number ∷ [])
+  abbrev asked : ℕ
+  asked = askedNumber tables area before (x .shard) routes (x .limits) range
 
-    go : (b : Bool) → eqb number 0 ≡ b → pick b (record { value = told (doneAnswer range (s .value) u); entries = s .entries }) (silent (told (refusedAnswer number range u))) .value .number ≡ 0
-        → LeftOf range (pick b (record { value = told (doneAnswer range (s .value) u); entries = s .entries }) (silent (told (refusedAnswer number range u))) .value .range)
-    go true e z =
-        let k = the-steps-of-a-read-keep-the-counts tables area u (x .shard) routes (x .limits) (x .processed) (x .params .«externals_expire_timeout») mode range eight records (first-zero _ _ (eqb-true number 0 e) .0) room in
-        record { in-place = record { seqno = refl; counts = k .0 }; eight = k .1 }
-    go false e z = absurd (eqb-false number 0 e z)
+  pub window-done : (P : Told → Type 0) → (asked ≡ 0 → P (told (doneAnswer range (steps .value) before)))
+      → windowRead tables area t routes x pops mode range room .value .number ≡ 0 → P (windowRead tables area t routes x pops mode range room .value)
+  unfolding windowRead
+  window-done P done = go (eqb number 0) refl
+    where
+      number : ℕ
+      number = firstNo (asked ∷ steps .value .walk .number ∷ [])
+
+      go : (b : Bool) → eqb number 0 ≡ b
+          → (let a = pick b (record { value = told (doneAnswer range (steps .value) before); entries = steps .entries }) (silent (told (refusedAnswer number range before))) .value in a .number ≡ 0 → P a)
+      go true e z = done (first-zero _ _ (eqb-true number 0 e) .0)
+      go false e z = absurd (eqb-false number 0 e z)
+
+  window-left : length (x .limits) ≡ 8 → length (range .«by_partitions») ≡ 8
+      → windowRead tables area t routes x pops mode range room .value .number ≡ 0 → LeftOf range (windowRead tables area t routes x pops mode range room .value .range)
+  window-left eight records =
+      let P : Told → Type 0 = λ a. LeftOf range (a .range) in
+      window-done P
+      (λ z. let k = the-steps-of-a-read-keep-the-counts tables area before (x .shard) routes (x .limits) (x .processed) (x .params .«externals_expire_timeout») mode range eight records z room in
+      record { in-place = record { seqno = refl; counts = k .0 }; eight = k .1 })
 
 module _ (tables area : List ℕ) (t : AnchorsCacheTransaction) (routes : List ℕ) (r : ExternalsReader) (mode : GetNextMessageGroupMode) (out : List ℕ) where
   abbrev state : ExternalsReaderState
@@ -120,7 +132,7 @@ module _ (tables area : List ℕ) (t : AnchorsCacheTransaction) (routes : List �
   unfolding allRead
   all-sound h five z m =
       let p = sound-parts state five in
-      a-read-of-all-keeps-question-5 (windowRead tables area t routes fixed) fixed (begun z m .limit) (h .partitions) (window-left tables area t routes fixed (h .limits)) (atEntry state) (record { few = p .0; sound = p .1; eight = h .ranges })
+      a-read-of-all-keeps-question-5 (windowRead tables area t routes fixed) fixed (begun z m .limit) (h .partitions) (λ pops mode range room. window-left tables area t routes fixed pops mode range room (h .limits)) (atEntry state) (record { few = p .0; sound = p .1; eight = h .ranges })
 
   pub a-read-of-all-keeps-question-5-of-its-reader : Shaped r → stateNumber (r .«reader_state») ≡ 0 → stateNumber (readAllCall tables area t routes r mode out .answer .reader .«reader_state») ≡ 0
   unfolding stateNumber

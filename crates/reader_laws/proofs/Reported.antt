@@ -1,23 +1,17 @@
 -- Document 02, ticket 7: the free places that a read of all answers, of the call's own answer.
 use Prim.Native.Nat.{ℕ}
 use mathlib.Core.Path.{_≡_, refl, ap}
-use mathlib.Core.Bool.{Bool, true, false}
-use mathlib.Core.List.{List, [], _∷_}
+use mathlib.Core.Bool.{true, false}
+use mathlib.Core.List.{List}
 use mathlib.Core.Logic.{inl}
 use mathlib.Core.Option.{none}
 use native.Mathlib.Omega.{arith}
 use lib.Dec.{eqb}
 use lib.ListN.{length}
-use borrow.Author.Tests.{eqb-true, eqb-false}
-use Rattle.rows.specs.Rows.{pick}
 use Rattle.rows.proofs.Laws.{pick-both}
-use Rattle.messages_buffer.specs.Fullness.{firstNo, rangeFree}
-use Rattle.messages_buffer.proofs.Laws.{first-zero}
+use Rattle.messages_buffer.specs.Fullness.{rangeFree}
 use Rattle.anchors_cache.specs.declared.AnchorsCacheTransaction.{AnchorsCacheTransaction}
 use Rattle.anchors_cache.specs.Calls.{popsCall}
-use Rattle.range_rules.specs.declared.RangeRead.{RangeRead}
-use Rattle.range_rules.specs.Rules.{Outcome, silent}
-use Rattle.range_reader.specs.Calls.{askedNumber, rangeRead, doneAnswer, refusedAnswer}
 use Rattle.range_reader.proofs.Kept.{steps-kept}
 use Rattle.reader_rules.specs.declared.ExternalsReader.{ExternalsReader}
 use Rattle.reader_rules.specs.declared.Fixed.{Fixed}
@@ -25,30 +19,19 @@ use Rattle.reader_rules.specs.declared.GetNextMessageGroupMode.{GetNextMessageG
 use Rattle.reader_rules.specs.declared.LastFree.{LastFree}
 use Rattle.reader_rules.specs.declared.RangesRead.{RangesRead}
 use Rattle.reader_rules.specs.State.{maxRanges}
-use Rattle.reader_rules.specs.Rules.{freeValue}
+use Rattle.reader_rules.specs.Rules.{Told, freeValue}
 use Rattle.reader_rules.proofs.Reported.{Reported, Reports, the-free-places-told-are-those-of-the-last-range-read}
 use Rattle.externals_reader.specs.Calls.{askedOfRead, told, windowRead, allRead, ReadAllResult, unchanged, allResult, readAllCall}
-use Rattle.reader_laws.proofs.AllKept.{answered, begun, fixed}
+use Rattle.reader_laws.proofs.AllKept.{window-done, answered, begun, fixed}
 use Rattle.reader_laws.proofs.Laws.{a-refused-read-of-all-changes-nothing, once-all-ranges-are-read-only-the-questions-are-asked}
 
 -- one range's read on the window
 window-reports : (tables area : List ℕ) (t : AnchorsCacheTransaction) (routes : List ℕ) (x : Fixed) → Reports (x .limits) (windowRead tables area t routes x)
-unfolding windowRead
-window-reports tables area t routes x pops mode range room = go (eqb number 0) refl
-  where
-    u : AnchorsCacheTransaction
-    u = popsCall (length area) pops tables t .state
-
-    s : Outcome RangeRead
-    s = rangeRead tables area u (x .shard) routes (x .limits) (x .processed) (x .params .«externals_expire_timeout») mode range room
-
-    number : ℕ
-    number = firstNo (askedNumber tables area u (x .shard) routes (x .limits) range ∷ s .value .walk .number ∷ [])
-
-    go : (b : Bool) → eqb number 0 ≡ b
-        → (let a = pick b (record { value = told (doneAnswer range (s .value) u); entries = s .entries }) (silent (told (refusedAnswer number range u))) .value in a .number ≡ 0 → a .free ≡ rangeFree (x .limits) (a .range .«by_partitions»))
-    go true e z = steps-kept tables area u (x .shard) routes (x .limits) (x .processed) (x .params .«externals_expire_timeout») mode range room (first-zero _ _ (eqb-true number 0 e) .0) .within .free
-    go false e z = absurd (eqb-false number 0 e z)
+window-reports tables area t routes x pops mode range room =
+    let P : Told → Type 0 = λ a. a .free ≡ rangeFree (x .limits) (a .range .«by_partitions») in
+    let before = popsCall (length area) pops tables t .state in
+    window-done tables area t routes x pops mode range room P
+    (λ z. steps-kept tables area before (x .shard) routes (x .limits) (x .processed) (x .params .«externals_expire_timeout») mode range room z .within .free)
 
 module _ (tables area : List ℕ) (t : AnchorsCacheTransaction) (routes : List ℕ) (r : ExternalsReader) (mode : GetNextMessageGroupMode) (out : List ℕ) where
   abbrev free : LastFree

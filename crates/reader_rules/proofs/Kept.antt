@@ -11,6 +11,7 @@ use lib.Seq.{sets-eq, set-out, take-all, take-length, take-append-seam}
 use borrow.Author.Tests.{eqb-true, eq-eqb, leb-true, leb-false, le-leb, ltb-true, ltb-false, not-true}
 use Rattle.rows.specs.Rows.{pick}
 use Rattle.rows.proofs.Laws.{and-true, pick-both, pick-yes}
+use Rattle.ext_types.specs.declared.ExternalKey.{ExternalKey}
 use Rattle.messages_buffer.specs.declared.ExternalsPartitionRangeReaderState.{ExternalsPartitionRangeReaderState}
 use Rattle.messages_buffer.specs.Fullness.{bufferCap, countFits, every, partitionsNumber}
 use Rattle.range_rules.specs.declared.ExternalsRangeReaderState.{ExternalsRangeReaderState}
@@ -23,7 +24,7 @@ use Rattle.reader_rules.specs.declared.Imported.{Imported}
 use Rattle.reader_rules.specs.declared.Imported.the-variants as imported
 use Rattle.reader_rules.specs.declared.RangesRead.{RangesRead}
 use Rattle.reader_rules.specs.Each.{each}
-use Rattle.reader_rules.specs.State.{heldRanges, maxRanges, openRangesLimit, rangeSound, soundRangesFrom}
+use Rattle.reader_rules.specs.State.{heldRanges, maxRanges, openRangesLimit, rangeSound, soundRangesFrom, withToAndPosition}
 use Rattle.reader_rules.specs.Rules.{rangeEntered, stateEntered, lastOr, nextPartition, nextRange, continues, wantsNext, isOwn, movedToEnd, settled, Told, numbered, added, readOf, afterTurn, OneRange, withNextRange, rangesRead}
 use Rattle.reader_rules.specs.Offsets.{readerPartition, recordAt, recordOf, rangeAt, lastOnly, onPlace, tallyOf, withCount, dropped, skipRaised, offsetRaised, onRecord, fromPosition, marked, raisedRange, finalized, withHeld}
 use Rattle.reader_rules.proofs.Turns.{the-read-of-all-keeps-what-each-range's-read-keeps}
@@ -251,18 +252,22 @@ eight-set (r ∷ l) zero q h f (suc j) a = h (suc j) a
 eight-set (r ∷ l) (suc i) q h f zero a = h 0 (omega arith)
 eight-set (r ∷ l) (suc i) q h f (suc j) a = eight-set l i q (λ k b. h (suc k) (omega arith)) (λ b. f (omega arith)) j (omega arith)
 
+-- a range that was read stays as it is, or is moved to the last imported entry
+pub settled-either : (P : ExternalsRangeReaderState → Type 0) (x : Fixed) (r : ExternalsRangeReaderState) → P r → ((key : ExternalKey) → P (withToAndPosition r key key)) → P (settled x r)
+unfolding settled
+settled-either P x r same moved = pick-both P (r .«fully_read» && isOwn x (r .seqno)) _ _ (go (x .imported)) same
+  where
+    go : (i : Imported) → P (movedToEnd i r)
+    go imported.Nothing = same
+    go (imported.End key) = moved key
+
 -- the range that a read left, moved to the last imported entry or not
 pub record LeftOf (range after : ExternalsRangeReaderState) : Type 0 where
   pub in-place : InPlaceOf range after
   pub eight : length (after .«by_partitions») ≡ 8
 
 settled-left : (x : Fixed) (range r : ExternalsRangeReaderState) → LeftOf range r → LeftOf range (settled x r)
-unfolding settled
-settled-left x range r h = pick-both (LeftOf range) (r .«fully_read» && isOwn x (r .seqno)) _ _ (moved (x .imported)) h
-  where
-    moved : (i : Imported) → LeftOf range (movedToEnd i r)
-    moved imported.Nothing = h
-    moved (imported.End key) = record { in-place = record { seqno = h .in-place .seqno; counts = h .in-place .counts }; eight = h .eight }
+settled-left x range r h = settled-either (LeftOf range) x r h (λ key. record { in-place = record { seqno = h .in-place .seqno; counts = h .in-place .counts }; eight = h .eight })
 
 -- question 5 of what the turns came to
 pub record Sound (r : RangesRead) : Type 0 where

@@ -16,13 +16,11 @@ use Rattle.range_rules.specs.declared.ExternalsRangeReaderState.{ExternalsRange
 use Rattle.range_rules.specs.Rules.{Outcome, silent, followed}
 use Rattle.reader_rules.specs.declared.ExternalsReaderState.{ExternalsReaderState}
 use Rattle.reader_rules.specs.declared.Fixed.{Fixed}
-use Rattle.reader_rules.specs.declared.Imported.{Imported}
-use Rattle.reader_rules.specs.declared.Imported.the-variants as imported
 use Rattle.reader_rules.specs.declared.RangesRead.{RangesRead}
 use Rattle.reader_rules.specs.State.{noRange, openRangesLimit}
 use Rattle.reader_rules.specs.Offsets.{allFullyRead}
-use Rattle.reader_rules.specs.Rules.{OneRange, Told, isOwn, isSkipped, modeFor, movedToEnd, settled, numbered, notAllRead, added, readOf, afterTurn, nextRange, wantsNext, turn, turns, withNextRange, rangesRead, atEntry}
-use Rattle.reader_rules.proofs.Kept.{wanted}
+use Rattle.reader_rules.specs.Rules.{OneRange, Told, isSkipped, modeFor, settled, numbered, notAllRead, added, readOf, afterTurn, nextRange, wantsNext, turn, turns, withNextRange, rangesRead, atEntry}
+use Rattle.reader_rules.proofs.Kept.{settled-either, wanted}
 
 -- ---- the first ranges, and one more
 one-more : (l : List ExternalsRangeReaderState) (r : ExternalsRangeReaderState) → allFullyRead (l ++ (r ∷ [])) ≡ (allFullyRead l && r .«fully_read»)
@@ -54,15 +52,9 @@ before-set (q ∷ l) zero r = refl
 before-set (q ∷ l) (suc i) r = ap (λ (k : List ExternalsRangeReaderState). q ∷ k) (before-set l i r)
 
 settled-mark : (x : Fixed) (r : ExternalsRangeReaderState) → settled x r .«fully_read» ≡ r .«fully_read»
-unfolding settled
-settled-mark x r = pick-both P (r .«fully_read» && isOwn x (r .seqno)) _ _ (go (x .imported)) refl
-  where
-    P : ExternalsRangeReaderState → Type 0
-    P q = q .«fully_read» ≡ r .«fully_read»
-
-    go : (i : Imported) → P (movedToEnd i r)
-    go imported.Nothing = refl
-    go (imported.End key) = refl
+settled-mark x r =
+    let P : ExternalsRangeReaderState → Type 0 = λ q. q .«fully_read» ≡ r .«fully_read» in
+    settled-either P x r refl (λ key. refl)
 
 -- ---- turn by turn
 -- what is known before range i's turn, of as many slots and ranges

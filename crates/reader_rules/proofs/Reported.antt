@@ -2,7 +2,7 @@
 -- reported", as that range stands at the end; where no range was read none are told.
 use Prim.Native.Nat.{ℕ, zero, suc, _+_, _-_, _<_, _≤_}
 use mathlib.Core.Path.{_≡_, refl, sym, ap, subst, _∙_}
-use mathlib.Core.Bool.{Bool, true, false, _&&_}
+use mathlib.Core.Bool.{Bool, true, false}
 use mathlib.Core.List.{List}
 use mathlib.Core.Logic.{_⊎_, inl, inr}
 use mathlib.Core.Option.{none, some}
@@ -21,13 +21,11 @@ use Rattle.range_rules.specs.declared.ReadNextExternalsMode.{ReadNextExternalsM
 use Rattle.range_rules.specs.Rules.{Outcome, silent, followed}
 use Rattle.reader_rules.specs.declared.ExternalsReaderState.{ExternalsReaderState}
 use Rattle.reader_rules.specs.declared.Fixed.{Fixed}
-use Rattle.reader_rules.specs.declared.Imported.{Imported}
-use Rattle.reader_rules.specs.declared.Imported.the-variants as imported
 use Rattle.reader_rules.specs.declared.LastFree.{LastFree}
 use Rattle.reader_rules.specs.declared.RangesRead.{RangesRead}
 use Rattle.reader_rules.specs.State.{noRange, openRangesLimit}
-use Rattle.reader_rules.proofs.Kept.{wanted}
-use Rattle.reader_rules.specs.Rules.{OneRange, Told, freeValue, isOwn, isSkipped, modeFor, movedToEnd, settled, numbered, added, readOf, afterTurn, wantsNext, turn, isOver, turns, withNextRange, rangesRead, nextRange, atEntry}
+use Rattle.reader_rules.proofs.Kept.{settled-either, wanted}
+use Rattle.reader_rules.specs.Rules.{OneRange, Told, freeValue, isSkipped, modeFor, settled, numbered, added, readOf, afterTurn, wantsNext, turn, isOver, turns, withNextRange, rangesRead, nextRange, atEntry}
 
 -- no range is read: the `len` ranges handed in are left as they were
 pub record NoneRead (before : List ExternalsRangeReaderState) (len : ℕ) (free : LastFree) (after : List ExternalsRangeReaderState) : Type 0 where
@@ -50,15 +48,9 @@ Reports limits one = (pops : ℕ) (mode : ReadNextExternalsMode) (range : Extern
     → let a = one pops mode range room .value in a .number ≡ 0 → a .free ≡ rangeFree limits (a .range .«by_partitions»)
 
 settled-partitions : (x : Fixed) (r : ExternalsRangeReaderState) → settled x r .«by_partitions» ≡ r .«by_partitions»
-unfolding settled
-settled-partitions x r = pick-both P (r .«fully_read» && isOwn x (r .seqno)) _ _ (go (x .imported)) refl
-  where
-    P : ExternalsRangeReaderState → Type 0
-    P q = q .«by_partitions» ≡ r .«by_partitions»
-
-    go : (i : Imported) → P (movedToEnd i r)
-    go imported.Nothing = refl
-    go (imported.End key) = refl
+settled-partitions x r =
+    let P : ExternalsRangeReaderState → Type 0 = λ q. q .«by_partitions» ≡ r .«by_partitions» in
+    settled-either P x r refl (λ key. refl)
 
 module _ (x : Fixed) (before : List ExternalsRangeReaderState) (slots len : ℕ) where
   -- before range i's turn, of n ranges that there are now
