@@ -24,6 +24,10 @@ B = acc(0, 1)
 OURS_B = (0, B)
 HEAD = [shard(0, FULL), settings(1000, 60, 5, 4, 0, [9])]
 END, PREVIOUS = 0, 1
+THREE, LATE = anchor(2, 1000, 3, [OURS] * 3), anchor(3, 1001, 2, [OURS] * 2)
+# offsets that 16 or 32 bits cut to one within THREE, and the greatest of so many bits
+FAR = {'2_%d%s' % (bits, name): 2**bits + k for bits in (16, 32)
+       for k, name in enumerate(('_minus_1', '', '_plus_1', '_plus_2', '_plus_3'), -1)}
 
 
 def cached(*a):
@@ -528,13 +532,109 @@ def free_places():
     }
 
 
+def far_ends():
+    """Ticket 4 of document 02: saved ends whose low 16 or 32 bits are a place in the anchor. No offset of it reaches
+    them."""
+    mixed, many = anchor(2, 1000, 1, [OTHER, OURS, OTHER]), anchor(2, 1000, 512, [OTHER] * 511 + [OURS])
+    res = {'far_end_top': reads(THREE, LATE, at((2, 0), (2, TOP64)), mode=PREVIOUS)}
+    for name, offset in FAR.items():
+        res['far_end_' + name] = reads(THREE, LATE, at((2, 0), (2, offset)), mode=PREVIOUS)
+        if not name.endswith('plus_3'):    # "to" stays above the position; cut to the count it would too
+            res['far_end_%s_to_the_end' % name] = reads(THREE, at((2, 0), (2, offset)))
+    for bits in (16, 32):
+        name, end, to = 'far_end_2_%d_plus_' % bits, (2, 2**bits + 1), (2, 2**bits + 2)
+        part = [THREE, LATE, at((2, 0), end)]
+        older, own = [[THREE, LATE, at((2, 0), to, seqno=s), do(OPEN)] for s in (4, 5)]
+        twice = [limits(1), one(5, PREVIOUS), limits(9), one(5, PREVIOUS)]
+        res.update({
+            # the range made behind begins at this "to"
+            name + '2_continue': HEAD + older + [do(READ), do(READ), do(CLOSE)],
+            name + '2_refill': HEAD + older + [do(REFILL), do(REFILL), do(CLOSE)],
+            name + '2_of_the_own': settled(limits=[3]) + own + [do(READ), do(REFILL), do(CLOSE)],
+            name + '1_at_position_1': reads(THREE, LATE, at((2, 1), end), mode=PREVIOUS),
+            name + '1_of_others': reads(mixed, LATE, at((2, 0), end), mode=PREVIOUS),
+            name + '1_of_a_later_id': reads(THREE, LATE, at((2, 0), (3, end[1])), mode=PREVIOUS),
+            name + '1_where_full': reads(*part, head=with_limits(1), mode=PREVIOUS),
+            name + '1_read_on': HEAD + part + [do(OPEN)] + twice + [do(CLOSE)],
+            name + '511_of_512': reads(many, LATE, at((2, 510), (2, 2**bits + 511)), mode=PREVIOUS),
+        })
+    return res
+
+
+def far_positions():
+    """The same of positions: past the count, so 11 unless a buffer is full or the saved end is just there. Of an
+    expired anchor nothing is counted, and the position stays."""
+    first, again = anchor(1, 1000, 1, [OURS]), [do(OPEN), do(READ), do(READ), do(CLOSE)]
+    res = {}
+    for name, offset in FAR.items():
+        res['11_far_position_' + name] = reads(THREE, LATE, at((2, offset)))
+        res['far_position_%s_expired' % name] = reads(THREE, at((2, offset), (2, 0), ct=61001))
+    for name, offset in {**FAR, '2_63': 2**63, 'top': TOP64}.items():
+        res['far_position_%s_at_the_saved_end' % name] = reads(THREE, LATE, at((2, offset)), mode=PREVIOUS)
+    for bits in (16, 32):
+        name = 'far_position_2_%d_' % bits
+        below, least, pos, count = [(2, 2**bits + k) for k in (-1, 0, 1, 3)]
+        second = [first, THREE, at((0, 0), (1, 1), seqno=3), at(pos, (2, 3), seqno=4)]
+        res.update({
+            name + 'plus_1_where_full': reads(THREE, LATE, at(pos), head=with_limits(0)),
+            name + 'plus_3_where_full': reads(THREE, LATE, at(count), head=with_limits(0)),
+            # the saved end is elsewhere: at the low bits, one below, one above
+            '11_%splus_1_end_1' % name: reads(THREE, LATE, at(pos, (2, 1)), mode=PREVIOUS),
+            '11_%send_below' % name: reads(THREE, LATE, at(least, below), mode=PREVIOUS),
+            '11_%sminus_1_end_above' % name: reads(THREE, LATE, at(below, least), mode=PREVIOUS),
+            '11_%splus_1_after_a_pop' % name: reads(first, THREE, at(pos)),
+            '11_%splus_1_in_the_second' % name: HEAD + second + again,
+            '11_%splus_1_in_the_made_range' % name: HEAD + [THREE, at(pos, seqno=4, fully=1)] + again,
+        })
+    return res
+
+
+def other_positions():
+    """Positions at and past the count of the longest anchor, of no anchor, and such a one from the history."""
+    many = [anchor(2, 1000, 512, [OURS] * 512), LATE]
+    first = [history(2, 5, 2**16 + 1), do(OPEN), do(READ), do(CLOSE)]
+    return {
+        **both('position_512_of_512', *many, at((2, 512)), head=with_limits(1024)),
+        '11_position_513_of_512': reads(*many, at((2, 513)), head=with_limits(1024)),
+        '11_far_position_2_16_plus_512_of_512': reads(*many, at((2, 2**16 + 512)), head=with_limits(1024)),
+        '11_far_position_2_32_plus_512_of_512': reads(*many, at((2, 2**32 + 512)), head=with_limits(1024)),
+        'far_position_of_no_anchor': reads(THREE, LATE, at((1, 2**16 + 1))),
+        'far_position_from_history': HEAD + first + [THREE, do(OPEN), one(5, END), one(5, PREVIOUS)],
+    }
+
+
+def far_processed():
+    """The same of processed positions: no message of the anchor is above them."""
+    mixed, two = anchor(2, 1000, 4, [OURS, OURS_B, OURS, OURS_B]), {0: (0, 0, 0), 1: (0, 0, 0)}
+    again = [do(OPEN), do(READ), do(READ), do(CLOSE)]
+    res = {
+        'processed_2_2': reads(THREE, LATE, at(), put_partition(0, (2, 2))),
+        'processed_2_top': reads(THREE, LATE, at(), put_partition(0, (2, TOP64))),
+    }
+    for name, offset in FAR.items():
+        if not name.endswith('plus_3'):    # cut to the count, no message would be above it either
+            res['far_processed_' + name] = reads(THREE, LATE, at(), put_partition(0, (2, offset)))
+    for bits in (16, 32):
+        name, key = 'far_processed_2_%d_plus_1_' % bits, (2, 2**bits + 1)
+        of_two = [put_partition(0, key), put_partition(1, (2, 2))]
+        res.update({
+            name + 'of_a_later_id': reads(THREE, LATE, at(), put_partition(0, (3, key[1]))),
+            name + 'of_one_partition': reads(route(0, B, 1), mixed, at(parts=two), *of_two, head=with_limits(9, 9)),
+            name + 'by_the_position': reads(THREE, LATE, at(key), function(19), at()),
+            name + 'in_a_read_of_all': HEAD + [THREE, LATE, put_partition(0, key)] + again,
+        })
+    return res
+
+
 def sessions():
     """Names and bytes, in the list's order."""
     named = {}
-    for group in (refusals(), walks(), caches(), whole_reads(), functions(), infos(), free_places()):
+    far = (far_ends(), far_positions(), other_positions(), far_processed())
+    for group in (refusals(), walks(), caches(), whole_reads(), functions(), infos(), free_places(), *far):
         assert not named.keys() & group.keys()
         named.update(group)
-    some = [('%s %d' % (kind, i), g.session(i, kind)) for kind, n in RANDOM.items() for i in range(1, n + 1)]
+    some = [('%s %d' % (kind, i), g.session(i, kind, far_offsets=False))
+            for kind, n in RANDOM.items() for i in range(1, n + 1)]
     return [(n, g.flat(recs)) for n, recs in named.items()] + some
 
 

@@ -958,19 +958,51 @@ def with_infos(r, recs):
     return out
 
 
-def session(seed, kind):
+def far(r, key, sizes):
+    """The key, of some anchor if its id is none's, with an offset that 16 or 32 bits would cut to one within the
+    anchor, or with the greatest of so many bits."""
+    aid = key[:4] if key[:4] in sizes else r.choice(list(sizes))
+    offset = -1 if r.random() < 0.15 else r.randint(0, sizes[aid])
+    return aid + struct.pack('<Q', r.choice([2**16, 2**16, 2**32]) + offset)
+
+
+def far_range(r, one, sizes):
+    """Record 0101 with such a saved end, now and then with such a position, or both."""
+    to, pos = one[22:34], one[34:46]
+    if r.random() < 0.75:
+        to = far(r, to, sizes)
+    else:
+        pos = far(r, pos, sizes)
+        to = r.choice([to, pos, pos, far(r, pos, sizes)])
+    return one[:22] + to + pos + one[46:]
+
+
+def with_far_offsets(r, recs):
+    """The same records; in two of three sessions some saved ends, positions and processed positions have offsets far
+    above every message count."""
+    sizes, out, share = {}, [], r.choice([0, 0.3, 0.6])
+    for one in recs:
+        kind = one[4:6]
+        if kind in (b'\x04\x00', b'\x07\x01'):
+            sizes[one[6:10]] = int.from_bytes(one[54:56], 'little')
+        elif kind == b'\x01\x01' and sizes and r.random() < share:
+            one = far_range(r, one, sizes)
+        elif kind == b'\x02\x01' and sizes and r.random() < share:
+            one = one[:8] + far(r, one[8:20], sizes) + one[20:]
+        out.append(one)
+    return out
+
+
+def session(seed, kind, far_offsets=True):
+    """Far offsets are drawn last: without them, as in the replayed list, a session is as before there were any."""
     r = random.Random(seed)
-    if kind == 'infos':
-        return flat(with_infos(r, r.choice([beyond, one_range, readers])(r)))
+    some = {'beyond': beyond, 'range': one_range, 'reader': readers}
+    if kind == 'infos' or kind in some:
+        recs = with_infos(r, r.choice(list(some.values()))(r)) if kind == 'infos' else some[kind](r)
+        return flat(with_far_offsets(r, recs) if far_offsets else recs)
     if kind == 'mixed':
         x = r.random()
         kind = 'plain' if x < 0.75 else 'malformed' if x < 0.97 else 'caps'
-    if kind == 'beyond':
-        return flat(beyond(r))
-    if kind == 'range':
-        return flat(one_range(r))
-    if kind == 'reader':
-        return flat(readers(r))
     if kind == 'plain':
         return flat(plain(r))
     return malformed(r) if kind == 'malformed' else caps(r)

@@ -85,6 +85,27 @@ CHANGES = [
     ('last chain time from any range', "last_seen, free = self.one_range(s, s != self.seqno)\n", "got, free = self.one_range(s, s != self.seqno)\n                last_seen = last_seen if got is None else got\n"),
     ('all-read mark forgotten', "            self.all_read = True\n            break", "            break"),
 ]
+# an offset of 64 bits in fewer (ticket 4 of document 02)
+NARROW = [
+    ('saved end cut to BITS bits', "off == end[1]", "off == end[1] % 2**BITS"),
+    ('saved end and offset compared by BITS bits', "off == end[1]", "(off - end[1]) % 2**BITS == 0"),
+    ('saved end held to BITS bits', "off == end[1]", "off == min(end[1], 2**BITS - 1)"),
+    ('saved end at the greatest of BITS bits taken for none', "off == end[1]", "off == end[1] != 2**BITS - 1"),
+    ('position cut to BITS bits', "off = pos[1] if", "off = pos[1] % 2**BITS if"),
+    ('position held to BITS bits', "off = pos[1] if", "off = min(pos[1], 2**BITS - 1) if"),
+    ('position at the greatest of BITS bits taken for none', "off = pos[1] if a['id'] == pos[0]",
+     "off = pos[1] if a['id'] == pos[0] and pos[1] != 2**BITS - 1"),
+    ('expired counted from an offset cut to BITS bits',
+     "for m in a['msgs'][off:]:\n                    if self.ours(m):",
+     "for m in a['msgs'][off % 2**BITS:]:\n                    if self.ours(m):"),
+    ('popped by an offset cut to BITS bits', "if off == len(a['msgs']):", "if off % 2**BITS == len(a['msgs']):"),
+    ('processed position cut to BITS bits', "> self.parts[p][0]:",
+     "> (self.parts[p][0][0], self.parts[p][0][1] % 2**BITS):"),
+    ('processed position of BITS bits with a sign', "> self.parts[p][0]:",
+     "> (self.parts[p][0][0], (self.parts[p][0][1] + 2**(BITS - 1)) % 2**BITS - 2**(BITS - 1)):"),
+    ('"to" raised by BITS bits', "if r['pos'] > r['to']:", "if r['pos'] > (r['to'][0], r['to'][1] % 2**BITS):"),
+]
+CHANGES += [tuple(x.replace('BITS', str(bits)) for x in change) for bits in (16, 32) for change in NARROW]
 
 
 def cases(dirs, beyond, many):

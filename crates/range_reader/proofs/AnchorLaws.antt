@@ -27,6 +27,7 @@ use Rattle.range_rules.specs.Rules.{Outcome, silent, followed, endReached, ends
 use Rattle.range_rules.specs.Bounds.{Within, Few}
 use Rattle.range_reader.specs.Ready.{Wrote, RangeReady, firstUnread, readOrRefused}
 use Rattle.range_rules.proofs.Counts.{weaker, within-up, within-refused, message-stepped, expired-one-le}
+use Rattle.range_rules.proofs.Narrow.{past-the-count-no-message-is-walked}
 use Rattle.range_reader.proofs.MessageLaws.{wrote-nothing, wrote-long, wrote-more}
 
 -- ---- step 6
@@ -196,20 +197,31 @@ module _ (x : Context) (routes area : List ℕ) (id : ℕ) (time : ChainTime) (p
         rw (le-ltb id (x .position .«anchor_id») i, e, sym we)
         (wrote-nothing write used out q (expired x time (expiredOver (x .shard) routes (drop (w .place .key .«msgs_offset») l) (w .counts .expired)) w r) (qe ∙ ap (λ (n : List ℕ). expired x time n w r) c))
 
-    pub anchor-walked : (o : List ℕ) (v : Walk) (q : RangeRead) → expiredAt (x .«chain_time») time (x .limit) ≡ false
-        → Wrote write (w .buffers .used) out o v (messagesRead x routes time (rows 33 (count - f) (take (33 * (place + count) - 33 * (place + f)) (drop (33 * (place + f)) area))) (silent w))
-        → q ≡ finished x time count v r → Wrote write (r .walk .buffers .used) out o q (anchorRead x routes id time (rows 33 count (drop (33 * place) area)) r)
-    unfolding anchorRead
-    anchor-walked o v q e h qe =
-        let l = rows 33 count (drop (33 * place) area) in
-        let u : w .buffers .used ≡ r .walk .buffers .used = ap (λ (a : Walk). a .buffers .used) we ∙ looked-used x id (r .walk) in
-        let n : length l ≡ count = rows-length 33 count (drop (33 * place) area) in
-        let g : Wrote write (w .buffers .used) out o v (messagesRead x routes time (drop (w .place .key .«msgs_offset») l) (silent w)) = rw (rest-messages area place count (w .place .key .«msgs_offset») f fe fl) at h in
-        rw (le-ltb id (x .position .«anchor_id») i, e, sym we, n)
-        (record {
-          value = qe ∙ ap (λ (a : Walk). finished x time count a r) (g .value);
-          out = g .out ∙ ap (λ (k : ℕ). pick write (sets out k (messagesRead x routes time (drop (w .place .key .«msgs_offset») l) (silent w) .entries)) out) u;
-        })
+    module _ (fresh : expiredAt (x .«chain_time») time (x .limit) ≡ false) where
+      -- over the messages from the offset on
+      anchor-over : (o : List ℕ) (v : Walk) (q : RangeRead) → Wrote write (w .buffers .used) out o v (messagesRead x routes time (unread w (rows 33 count (drop (33 * place) area))) (silent w))
+          → q ≡ finished x time count v r → Wrote write (r .walk .buffers .used) out o q (anchorRead x routes id time (rows 33 count (drop (33 * place) area)) r)
+      unfolding anchorRead
+      anchor-over o v q g qe =
+          let l = rows 33 count (drop (33 * place) area) in
+          let u : w .buffers .used ≡ r .walk .buffers .used = ap (λ (a : Walk). a .buffers .used) we ∙ looked-used x id (r .walk) in
+          let n : length l ≡ count = rows-length 33 count (drop (33 * place) area) in
+          rw (le-ltb id (x .position .«anchor_id») i, fresh, sym we, n)
+          (record {
+            value = qe ∙ ap (λ (a : Walk). finished x time count a r) (g .value);
+            out = g .out ∙ ap (λ (k : ℕ). pick write (sets out k (messagesRead x routes time (unread w l) (silent w) .entries)) out) u;
+          })
+
+      pub anchor-walked : (o : List ℕ) (v : Walk) (q : RangeRead) → Wrote write (w .buffers .used) out o v (messagesRead x routes time (rows 33 (count - f) (take (33 * (place + count) - 33 * (place + f)) (drop (33 * (place + f)) area))) (silent w))
+          → q ≡ finished x time count v r → Wrote write (r .walk .buffers .used) out o q (anchorRead x routes id time (rows 33 count (drop (33 * place) area)) r)
+      anchor-walked o v q h = anchor-over o v q (rw (rest-messages area place count (w .place .key .«msgs_offset») f fe fl) at h)
+
+      pub anchor-past : (q : RangeRead) → count < w .place .key .«msgs_offset» → q ≡ finished x time count w r
+          → Wrote write (r .walk .buffers .used) out out q (anchorRead x routes id time (rows 33 count (drop (33 * place) area)) r)
+      anchor-past q past =
+          let l = rows 33 count (drop (33 * place) area) in
+          let n : length l ≤ w .place .key .«msgs_offset» = omega (arith, rows-length 33 count (drop (33 * place) area)) in
+          anchor-over out w q (rw (past-the-count-no-message-is-walked x routes time l (w .place .key .«msgs_offset») w n) (wrote-nothing write (w .buffers .used) out w w refl))
 
 -- ---- the anchors
 -- the front anchor of a window

@@ -4,6 +4,7 @@ use mathlib.Core.Bool.{Bool, not, _||_}
 use mathlib.Core.List.{List, []}
 use lib.Dec.{leb, eqb}
 use Rattle.rows.specs.Rows.{pick}
+use Rattle.ext_types.specs.declared.ChainTime.{ChainTime}
 use Rattle.ext_types.specs.declared.ExternalKey.{ExternalKey}
 use Rattle.messages_buffer.specs.declared.ExternalsPartitionRangeReaderState.{ExternalsPartitionRangeReaderState}
 use Rattle.messages_buffer.specs.Fullness.{freeIn, least, oneMore}
@@ -11,19 +12,18 @@ use Rattle.range_reader.specs.declared.Entry.{Entry}
 use Rattle.range_rules.specs.declared.Place.{Place}
 use Rattle.range_rules.specs.declared.ProcessedTo.{ProcessedTo}
 use Rattle.range_reader.specs.declared.Progress.{Progress}
-use Rattle.range_rules.specs.declared.ReadNextExternalsMode.{ReadNextExternalsMode}
 use Rattle.range_reader.specs.declared.Taken.{Taken}
 use Rattle.range_rules.specs.declared.Verdict.{Verdict}
 use Rattle.range_rules.specs.declared.Verdict.the-variants.{Keep, Buffer, Refuse}
 use Rattle.range_rules.specs.declared.Walk.{Walk}
-use Rattle.range_rules.specs.Rules.{endReached, movedTo, keyAt, ends, judge, entryBytes, entryLen}
+use Rattle.range_rules.specs.Rules.{movedTo, keyAt, judge, entryBytes, entryLen}
 
 abbrev pub progressOf : Walk → Progress
 progressOf w = record { number = w .number; free = w .buffers .free; used = w .buffers .used }
 
--- the walk stops at a key
-unfoldable pub stoppedAt : ReadNextExternalsMode → ExternalKey → ExternalKey → Progress → Bool
-stoppedAt mode end key b = not (eqb (b .number) 0) || (eqb (b .free) 0 || ends mode (endReached key end))
+-- before its end the walk is stopped by a question that was answered "no", or by a full buffer
+unfoldable pub stoppedBy : Progress → Bool
+stoppedBy b = not (eqb (b .number) 0) || eqb (b .free) 0
 
 -- the place follows from the offset: where no message was read it is as before
 unfoldable pub placeAt : ExternalKey → Place → ℕ → Place
@@ -39,6 +39,9 @@ walkOf start end offset b partitions read buffered =
     }
 
 -- ---- a message of ours
+abbrev pub entryAt : ℕ → ℕ → ℕ → ℕ → ChainTime → Entry
+entryAt seqno p id offset time = record { seqno = seqno; partition = p; key = keyAt id offset; time = time }
+
 abbrev pub bytesOf : Entry → List ℕ
 bytesOf e = entryBytes (e .seqno) (e .partition) (e .key) (e .time)
 

@@ -1,7 +1,7 @@
 // The range's read over the cached anchors. The cache is seen by index; the pops are counted.
 ghost use mathlib.Core.Path.{_≡_};
 ghost use mathlib.Core.Bool.{_&&_};
-ghost use Prim.Native.Nat.{_+_, _*_, _-_, _^_, _<_, _≤_};
+ghost use Prim.Native.Nat.{_+_, _*_, _<_, _≤_};
 ghost use lib.ListN.{length, drop};
 ghost use Rattle.rows.specs.Rows.{rows};
 ghost use Rattle.router.specs.Router.{routesNumber};
@@ -75,7 +75,7 @@ fn looked(x: Context, id: u32, w: Walk) -> Walk
 // The first message from the offset on; past the end, the end. The offset is compared as it is, since it may be any 64
 // bits.
 fn first_unread(offset: u64, count: usize) -> usize
-    ensures { λ r. ⌜ (r ≡ firstUnread offset count) × (r ≤ count) × (offset + (count - r) < 2 ^ 64) ⌝ }
+    ensures { λ r. ⌜ (r ≡ firstUnread offset count) × (r ≤ count) × (offset ≤ count → r ≡ offset) ⌝ }
 {
     let most = count as u64;
     if offset < most {
@@ -213,6 +213,10 @@ fn anchor_read(
         let before = counts.expired;
         let all = messages::count_expired(shard, routes, rest, n, before);
         return expired(x, time, all, w, r);
+    }
+    // No message is left, and the offset may be any 64 bits.
+    if (count as u64) < key.msgs_offset {
+        return finished(x, time, count, w, r);
     }
     let v = messages::messages_read(x, routes, time, rest, n, w, write, out);
     finished(x, time, count, v, r)

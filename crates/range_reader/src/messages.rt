@@ -9,10 +9,11 @@ ghost use Rattle.rows.specs.Rows.{pick, rows};
 ghost use Rattle.shard_ident.specs.Shard.{isShard, isOurs};
 ghost use Rattle.router.specs.Router.{partitionOf, routesNumber};
 ghost use Rattle.range_rules.specs.declared.Verdict.the-variants.{Keep, Buffer, Refuse};
-ghost use Rattle.range_rules.specs.Rules.{endReached, raised, movedTo, ends, judge, messagesRead, expiredOver, entryLen};
+ghost use Rattle.range_rules.specs.Rules.{endReached, raised, movedTo, keyAt, ends, judge, messagesRead, expiredOver, entryLen};
+ghost use Rattle.range_rules.specs.Narrow.{maxOffset, savedEndBefore, walkEnd};
 ghost use Rattle.range_reader.specs.Ready.{Ready, Wrote};
 ghost use Rattle.range_rules.specs.Bounds.{Few};
-ghost use Rattle.range_reader.specs.Locals.{stoppedAt, placeAt, progressOf, walkOf, bytesOf, verdictAt, taken, entriesOf};
+ghost use Rattle.range_reader.specs.Locals.{stoppedBy, placeAt, progressOf, walkOf, entryAt, bytesOf, verdictAt, taken, entriesOf};
 ghost use Rattle.cache_rules.specs.Rules.{maxMessages};
 use crate::Entry;
 use crate::Progress;
@@ -68,18 +69,25 @@ pub(crate) fn moved_to(end: ExternalKey, key: ExternalKey, p: Place) -> Place
     }
 }
 
+// The key of an offset that the walk holds in 16 bits.
+fn key_at(id: u32, offset: u16) -> ExternalKey
+    ensures { λ r. ⌜ r ≡ keyAt id offset ⌝ }
+{
+    ExternalKey {
+        anchor_id: id,
+        msgs_offset: offset as u64,
+    }
+}
+
 // The place at an offset of the anchor: the one before the first message, or moved behind the last one read.
-fn place_at(end: ExternalKey, place: Place, offset: u64) -> Place
+fn place_at(end: ExternalKey, place: Place, offset: u16) -> Place
     ensures { λ r. ⌜ r ≡ placeAt end place offset ⌝ }
 {
     let old = place.key;
-    if old.msgs_offset == offset {
+    let key = key_at(old.anchor_id, offset);
+    if old.msgs_offset == key.msgs_offset {
         return place;
     }
-    let key = ExternalKey {
-        anchor_id: old.anchor_id,
-        msgs_offset: offset,
-    };
     moved_to(end, key, place)
 }
 
@@ -93,17 +101,44 @@ pub(crate) fn ends(mode: ReadNextExternalsMode, reached: bool) -> bool
     }
 }
 
-fn stops(mode: ReadNextExternalsMode, end: ExternalKey, key: ExternalKey, b: Progress) -> bool
-    ensures { λ r. ⌜ r ≡ stoppedAt mode end key b ⌝ }
+// From a key on, the offset at which the saved end is reached, but `last` where that is not before it.
+fn saved_end_before(end: ExternalKey, key: ExternalKey, last: u64) -> u64
+    ensures { λ r. ⌜ r ≡ savedEndBefore end key last ⌝ }
+{
+    if end.anchor_id < key.anchor_id {
+        return key.msgs_offset;
+    }
+    if end.anchor_id != key.anchor_id {
+        return last;
+    }
+    if end.msgs_offset < key.msgs_offset {
+        return last;
+    }
+    if last < end.msgs_offset {
+        return last;
+    }
+    end.msgs_offset
+}
+
+// Where the walk over one anchor from a key on ends at the latest. It is worked out once, so that the walk looks at no
+// saved end.
+fn walk_end(mode: ReadNextExternalsMode, end: ExternalKey, key: ExternalKey, last: u64) -> u64
+    ensures { λ r. ⌜ r ≡ walkEnd mode end key last ⌝ }
+{
+    match mode {
+        ReadNextExternalsMode::ToTheEnd => last,
+        ReadNextExternalsMode::ToPreviuosReadTo => saved_end_before(end, key, last),
+    }
+}
+
+// Before its end, the walk stops where a question was answered "no" or a buffer is full.
+fn stops(b: Progress) -> bool
+    ensures { λ r. ⌜ r ≡ stoppedBy b ⌝ }
 {
     if b.number != 0 {
         return true;
     }
-    if b.free == 0 {
-        return true;
-    }
-    let reached = end_reached(key, end);
-    ends(mode, reached)
+    b.free == 0
 }
 
 fn is_ours(shard: ShardIdent, m: &[u8]) -> bool
@@ -200,6 +235,18 @@ fn buffered(limit: u16, partition: ExternalsPartitionRangeReaderState, b: Progre
     }
 }
 
+fn entry_at(seqno: u32, partition: usize, id: u32, offset: u16, time: ChainTime) -> Entry
+    ensures { λ r. ⌜ r ≡ entryAt seqno partition id offset time ⌝ }
+{
+    let key = key_at(id, offset);
+    Entry {
+        seqno: seqno,
+        partition: partition,
+        key: key,
+        time: time,
+    }
+}
+
 // An output entry: seqno, partition, anchor id, offset after reading, the anchor's chain time.
 fn put_entry(out: &mut [u8], at: usize, e: Entry)
     requires { ⌜ at + entryLen ≤ length (now out) ⌝ }
@@ -268,7 +315,7 @@ fn progress_of(w: Walk) -> Progress
 fn walk_of(
     start: Walk,
     end: ExternalKey,
-    offset: u64,
+    offset: u16,
     b: Progress,
     partitions: [ExternalsPartitionRangeReaderState; 8],
     read: [u32; 8],
@@ -299,7 +346,7 @@ fn walk_of(
 }
 
 // The n messages of the rest of an anchor, in order, until the walk is stopped. The walk's arrays are locals that are
-// changed in place; its place follows from the offset.
+// changed in place; its place follows from the offset, which 16 bits hold as far as there are messages.
 pub(crate) fn messages_read(
     x: Context,
     routes: &[u8],
@@ -310,72 +357,44 @@ pub(crate) fn messages_read(
     write: bool,
     out: &mut [u8],
 ) -> Walk
-    requires { ⌜ Ready x (now routes) (now out) × (33 * n ≤ length (now rest)) × (start .place .key .«msgs_offset» + n < 2 ^ 64) × Few x n start × (start .place .reached ≡ endReached (start .place .key) (x .«saved_end»)) ⌝ }
+    requires { ⌜ Ready x (now routes) (now out) × (33 * n ≤ length (now rest)) × (start .place .key .«msgs_offset» + n ≤ maxOffset) × Few x n start × (start .place .reached ≡ endReached (start .place .key) (x .«saved_end»)) ⌝ }
     ensures { λ r. ⌜ Wrote write (start .buffers .used) (now (out .entry)) (now (out .exit)) r (messagesRead x (now (routes .entry)) time (rows 33 n (now (rest .entry))) (record { value = start; entries = [] })) ⌝ }
 {
     let place = start.place;
     let buffers = start.buffers;
     let counts = start.counts;
-    let mut key = place.key;
+    let first = place.key;
+    let last = first.msgs_offset + n as u64;
+    let end = walk_end(x.mode, x.saved_end, first, last) as u16;
+    let mut offset = first.msgs_offset as u16;
     let mut b = progress_of(start);
     let mut partitions = buffers.by_partitions;
     let mut read = counts.read;
     let mut buffered = counts.buffered;
     let mut at = 0;
-    let mut left = n;
-    while 0 < left {
-        if stops(x.mode, x.saved_end, key, b) {
-            return walk_of(
-                start,
-                x.saved_end,
-                key.msgs_offset,
-                b,
-                partitions,
-                read,
-                buffered,
-            );
+    while offset < end {
+        if stops(b) {
+            return walk_of(start, x.saved_end, offset, b, partitions, read, buffered);
         }
         let m = &rest[at..at + MESSAGE_LEN];
-        key.msgs_offset = key.msgs_offset + 1;
+        offset += 1;
         at += MESSAGE_LEN;
-        left -= 1;
         if !is_ours(x.shard, m) {
             continue;
         }
         let p = partition_of(routes, m);
-        let e = Entry {
-            seqno: x.seqno,
-            partition: p,
-            key: key,
-            time: time,
-        };
+        let e = entry_at(x.seqno, p, first.anchor_id, offset, time);
         let processed = x.processed[p];
+        let limit = x.limits[p];
         let partition = partitions[p];
-        let t = our_read(
-            e,
-            processed,
-            x.limits[p],
-            partition,
-            b,
-            x.room,
-            write,
-            &mut *out,
-        );
+        let t = our_read(e, processed, limit, partition, b, x.room, write, &mut *out);
         let next = t.partition;
         read[p] = read[p] + t.read;
         buffered[p] = buffered[p] + t.buffered;
         partitions[p] = next;
         b = t.progress;
     }
-    walk_of(
-        start,
-        x.saved_end,
-        key.msgs_offset,
-        b,
-        partitions,
-        read,
-        buffered,
-    )
+    walk_of(start, x.saved_end, offset, b, partitions, read, buffered)
 }
 
 // The messages of ours among n of an expired anchor, counted per partition.

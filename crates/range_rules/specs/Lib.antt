@@ -1,3 +1,4 @@
 pub mod Rules
+pub mod Narrow
 pub mod Bounds
 pub mod Refusals

@@ -279,6 +279,17 @@ impl Session {
         }
     }
 
+    /// In so many of 1,000 the offset becomes one that 16 or 32 bits would cut to a place in the anchor, or the greatest
+    /// of so many bits.
+    fn far(&mut self, n: usize, key: Key) -> Key {
+        match self.sizes.iter().rfind(|a| a.0 == key.0) {
+            Some(&(id, size)) if self.r.chance(n) => {
+                (id, self.r.pick(&[1 << 16, 1 << 16, 1 << 32]) - 1 + self.r.below(size as usize + 2) as u64)
+            }
+            _ => key,
+        }
+    }
+
     fn range_partition(&mut self, p: usize, there: bool) -> Payload {
         if !there {
             return payload().flag(false).u32(0).u32(0).u32(0);
@@ -327,6 +338,8 @@ impl Session {
             let (from, to) = (keys[2 * i], keys[2 * i + 2]);
             let position = self.r.pick(&[from, from, from, keys[2 * i + 1], keys[2 * i + 1], to]);
             let (position, to) = if self.r.chance(40) { (to, position) } else { (position, to) };
+            let to = self.far(150, to);
+            let position = if self.r.chance(30) { to } else { self.far(30, position) };
             self.range(seqno, from, position, to);
         }
     }
@@ -335,6 +348,7 @@ impl Session {
         for p in 0..8 {
             if self.limits[p as usize] != NO_LIMIT && self.r.chance(850) || self.r.chance(10) {
                 let key = if self.r.chance(150) { self.key() } else { (0, 0) };
+                let key = self.far(400, key);
                 let (there, offset) = (self.r.chance(975), self.r.pick(&[0, 0, 0, 1, 2, 3]));
                 let offset = if self.r.chance(20) { u32::MAX } else { offset };
                 self.rec(0x102, payload().u8(p).flag(there).key(key).u32(offset));

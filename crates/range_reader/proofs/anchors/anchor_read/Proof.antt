@@ -2,7 +2,7 @@
 use lib.ListN.{length-take, length-drop}
 use Rattle.range_rules.specs.Rules.{looked}
 use Rattle.range_rules.proofs.Counts.{weaker, within-up}
-use Rattle.range_reader.proofs.AnchorLaws.{anchor-popped, anchor-expired, anchor-walked, within-looked, looked-reached}
+use Rattle.range_reader.proofs.AnchorLaws.{anchor-popped, anchor-expired, anchor-past, anchor-walked, within-looked, looked-reached}
 use Prim.Native.Nat.{_-_}
 use mathlib.Core.Path.{sym, _∙_}
 use native.Mathlib.Omega.{arith}
@@ -112,28 +112,38 @@ returns-2 c =
     let c-first-unread = c .before .before .before .before .before .before .before .before .before .before .before .before .before .first-unread in
     anchor-expired (c-args .x) (c-args .routes .now) (c-args .area .now) (c-args .a .id) (c-args .a .«chain_time») (c-args .a .place) (c-args .a .count) (c-args .r) (c-args .write) (c-args .out .now) (c-looked .result) (c-first-unread .result) (c .before .before .before .before .before .before .before .before .before .before .before .before .before .before .before .before .before .before .if1 .left) (c-looked .ensures) (c-first-unread .ensures .0) (c-first-unread .ensures .1) _ _ _ (sym (c .before .before .before .before .before .before .is-expired .ensures) ∙ c .before .before .before .before .before .if2 .taken) (c .before .count-expired .ensures) (c .expired .ensures)
 
+finished-requires : tie.Need-finished-requires
+finished-requires c κs = c .before .before .before .before .before .before .before .before .before .before .before .before .before .before .before .before .before .before .before .before .before .pre .pops
+
+returns-3 : tie.Need-returns-3
+returns-3 c =
+    let c-args = c .before .before .before .before .before .before .before .before .before .before .before .before .before .before .before .before .before .before .before .before .before .before .args in
+    let c-looked = c .before .before .before .before .before .before .before .before .before .before .before .before .before .before .looked in
+    let c-first-unread = c .before .before .before .before .before .before .before .before .before .before .before .first-unread in
+    anchor-past (c-args .x) (c-args .routes .now) (c-args .area .now) (c-args .a .id) (c-args .a .«chain_time») (c-args .a .place) (c-args .a .count) (c-args .r) (c-args .write) (c-args .out .now) (c-looked .result) (c-first-unread .result) (c .before .before .before .before .before .before .before .before .before .before .before .before .before .before .before .before .if1 .left) (c-looked .ensures) (c-first-unread .ensures .0) (c-first-unread .ensures .1) (sym (c .before .before .before .before .is-expired .ensures) ∙ c .before .before .before .if2 .left) _ (c .before .if3 .taken) (c .finished .ensures)
+
 messages-read-requires : tie.Need-messages-read-requires
 messages-read-requires c κs =
-    let c-pre = c .before .before .before .before .before .before .before .before .before .before .before .before .before .before .before .before .before .before .before .before .pre in
-    let c-first-unread = c .before .before .before .before .before .before .before .before .before .first-unread in
-    let c-args = c .before .before .before .before .before .before .before .before .before .before .before .before .before .before .before .before .before .before .before .before .args in
+    let c-pre = c .before .before .before .before .before .before .before .before .before .before .before .before .before .before .before .before .before .before .before .before .before .before .pre in
+    let c-first-unread = c .before .before .before .before .before .before .before .before .before .before .before .first-unread in
+    let c-args = c .before .before .before .before .before .before .before .before .before .before .before .before .before .before .before .before .before .before .before .before .before .before .args in
     let p = c-pre .placed in
     let f = c-first-unread .ensures .1 in
     let n = c-pre .few .few in
-    (c-pre .fixed, simp (length-take, length-drop) (omega arith), c-first-unread .ensures .2, record { few = omega arith; within = rw (c .before .before .before .before .before .before .before .before .before .before .before .before .looked .ensures) (within-up (c-args .x) (maxMessages - c-args .a .count) _ (within-looked (c-args .x) _ (c-args .a .id) (c-args .r .walk) (c-pre .few .within)) _ (omega arith)) }, looked-reached (c-args .x) (c-args .a .id) (c-args .r .walk) _ (c .before .before .before .before .before .before .before .before .before .before .before .before .looked .ensures))
+    (c-pre .fixed, simp (length-take, length-drop) (omega arith), omega (arith, c-first-unread .ensures .2 (c .before .if3 .left)), record { few = omega arith; within = rw (c .before .before .before .before .before .before .before .before .before .before .before .before .before .before .looked .ensures) (within-up (c-args .x) (maxMessages - c-args .a .count) _ (within-looked (c-args .x) _ (c-args .a .id) (c-args .r .walk) (c-pre .few .within)) _ (omega arith)) }, looked-reached (c-args .x) (c-args .a .id) (c-args .r .walk) _ (c .before .before .before .before .before .before .before .before .before .before .before .before .before .before .looked .ensures))
 
-finished-requires : tie.Need-finished-requires
-finished-requires c κs = c .before .before .before .before .before .before .before .before .before .before .before .before .before .before .before .before .before .before .before .before .before .before .before .pre .pops
+finished-requires-2 : tie.Need-finished-requires-2
+finished-requires-2 c κs = c .before .before .before .before .before .before .before .before .before .before .before .before .before .before .before .before .before .before .before .before .before .before .before .before .before .pre .pops
 
 same-length : tie.Need-same-length
 same-length c = search needs
 
-returns-3 : tie.Need-returns-3
-returns-3 c =
-    let c-args = c .before .before .before .before .before .before .before .before .before .before .before .before .before .before .before .before .before .before .before .before .before .before .before .before .args in
-    let c-looked = c .before .before .before .before .before .before .before .before .before .before .before .before .before .before .before .before .looked in
-    let c-first-unread = c .before .before .before .before .before .before .before .before .before .before .before .before .before .first-unread in
-    anchor-walked (c-args .x) (c-args .routes .now) (c-args .area .now) (c-args .a .id) (c-args .a .«chain_time») (c-args .a .place) (c-args .a .count) (c-args .r) (c-args .write) (c-args .out .now) (c-looked .result) (c-first-unread .result) (c .before .before .before .before .before .before .before .before .before .before .before .before .before .before .before .before .before .before .if1 .left) (c-looked .ensures) (c-first-unread .ensures .0) (c-first-unread .ensures .1) _ _ _ (sym (c .before .before .before .before .before .before .is-expired .ensures) ∙ c .before .before .before .before .before .if2 .left) (c .before .before .before .messages-read .ensures) (c .finished .ensures)
+returns-4 : tie.Need-returns-4
+returns-4 c =
+    let c-args = c .before .before .before .before .before .before .before .before .before .before .before .before .before .before .before .before .before .before .before .before .before .before .before .before .before .before .args in
+    let c-looked = c .before .before .before .before .before .before .before .before .before .before .before .before .before .before .before .before .before .before .looked in
+    let c-first-unread = c .before .before .before .before .before .before .before .before .before .before .before .before .before .before .before .first-unread in
+    anchor-walked (c-args .x) (c-args .routes .now) (c-args .area .now) (c-args .a .id) (c-args .a .«chain_time») (c-args .a .place) (c-args .a .count) (c-args .r) (c-args .write) (c-args .out .now) (c-looked .result) (c-first-unread .result) (c .before .before .before .before .before .before .before .before .before .before .before .before .before .before .before .before .before .before .before .before .if1 .left) (c-looked .ensures) (c-first-unread .ensures .0) (c-first-unread .ensures .1) (sym (c .before .before .before .before .before .before .before .before .is-expired .ensures) ∙ c .before .before .before .before .before .before .before .if2 .left) _ _ _ (c .before .before .before .messages-read .ensures) (c .finished2 .ensures)
 
 pub anchor-read-spec : {M : Type 1} → statement M
 anchor-read-spec =
@@ -155,7 +165,9 @@ anchor-read-spec =
     count-expired-requires
     expired-requires
     returns-2
-    messages-read-requires
     finished-requires
+    returns-3
+    messages-read-requires
+    finished-requires-2
     same-length
-    returns-3)
+    returns-4)
