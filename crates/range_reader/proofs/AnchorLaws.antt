@@ -27,7 +27,7 @@ use Rattle.range_rules.specs.Rules.{Outcome, silent, followed, endReached, ends
 use Rattle.range_rules.specs.Bounds.{Within, Few}
 use Rattle.range_reader.specs.Ready.{Wrote, RangeReady, firstUnread, readOrRefused}
 use Rattle.range_rules.proofs.Counts.{weaker, within-up, within-refused, message-stepped, expired-one-le}
-use Rattle.range_rules.proofs.Narrow.{past-the-count-no-message-is-walked}
+use Rattle.range_rules.proofs.WalkEnd.{past-the-count-no-message-is-walked}
 use Rattle.range_reader.proofs.MessageLaws.{wrote-nothing, wrote-long, wrote-more}
 
 -- ---- step 6

@@ -1,5 +1,5 @@
 -- What the walk's locals stand for moves on with each message as the walk does.
-use Prim.Native.Nat.{ℕ, suc, zero, _+_, _-_, _*_, _≤_, _<_}
+use Prim.Native.Nat.{ℕ, suc, zero, _+_, _-_, _*_, _^_, _≤_, _<_}
 use mathlib.Core.Path.{_≡_, refl, sym, ap, _∙_}
 use mathlib.Core.Bool.{Bool, true, false, not, _||_}
 use mathlib.Core.List.{List, [], _∷_}
@@ -29,13 +29,13 @@ use Rattle.range_rules.specs.declared.Verdict.{Verdict}
 use Rattle.range_rules.specs.declared.Verdict.the-variants.{Keep, Buffer, Refuse}
 use Rattle.range_rules.specs.declared.Walk.{Walk}
 use Rattle.range_rules.specs.Rules.{silent, endReached, raised, movedTo, keyAt, nextKey, advanced, ends, stopped, noProcessed, judge, more, refusedWith, readOne, buffered, bufferOne, after, verdictOn, ourRead, messageRead, messagesRead, entryLen}
-use Rattle.range_rules.specs.Narrow.{maxOffset, walkEnd}
+use Rattle.range_rules.specs.WalkEnd.{walkEnd}
 use Rattle.range_rules.specs.Bounds.{Few}
 use Rattle.cache_rules.specs.Rules.{maxMessages, areaBytes}
 use Rattle.range_reader.specs.Ready.{Wrote}
 use Rattle.range_reader.specs.Locals.{progressOf, stoppedBy, placeAt, walkOf, entryAt, bytesOf, verdictAt, taken, entriesOf}
 use Rattle.range_rules.proofs.Counts.{judge-buffer, stopped-full, room-in}
-use Rattle.range_rules.proofs.Narrow.{the-narrow-end-is-the-64-bit-end, the-walk-ends-within-its-messages}
+use Rattle.range_rules.proofs.WalkEnd.{the-narrow-end-is-the-64-bit-end, the-walk-ends-within-its-messages}
 use Rattle.range_reader.proofs.MessageLaws.{wrote-nothing, Turn, turn-start, turn-next, turn-stop, turn-none}
 
 -- ---- places
@@ -202,7 +202,7 @@ module _ (x : Context) (routes : List ℕ) (time : ChainTime) (rest : List ℕ) 
   pub locals-within : (end : ℕ) → end ≡ walkEnd (x .mode) (x .«saved_end») (start .place .key) (start .place .key .«msgs_offset» + n) → (start .place .key .«msgs_offset» ≤ end) × (end ≤ start .place .key .«msgs_offset» + n)
   locals-within end e = rw e (the-walk-ends-within-its-messages (x .mode) (x .«saved_end») (start .place .key) (start .place .key .«msgs_offset» + n) (omega arith))
 
-  pub locals-start : 33 * n ≤ length rest → start .place .key .«msgs_offset» + n ≤ maxOffset → Few x n start → length (start .buffers .«by_partitions») ≡ 8 → length (start .counts .read) ≡ 8 → length (start .counts .buffered) ≡ 8
+  pub locals-start : 33 * n ≤ length rest → start .place .key .«msgs_offset» + n < 2 ^ 16 → Few x n start → length (start .buffers .«by_partitions») ≡ 8 → length (start .counts .read) ≡ 8 → length (start .counts .buffered) ≡ 8
       → (b : Progress) → b ≡ progressOf start → LocalTurn x routes time rest n write out₀ start out₀ (start .place .key .«msgs_offset») b (start .buffers .«by_partitions») (start .counts .read) (start .counts .buffered) 0
   locals-start e f h p r s b be =
       let l : first + n - first ≡ n = omega arith in
@@ -236,7 +236,7 @@ module _ (x : Context) (routes : List ℕ) (time : ChainTime) (rest : List ℕ) 
       left : offset < first + n
       left = omega (arith, locals-within end ee .1)
 
-      pub locals-fit : offset + 1 ≤ maxOffset
+      pub locals-fit : offset + 1 < 2 ^ 16
       locals-fit = let f = rw (place-key (x .«saved_end») (start .place) offset) at (h .turn .fits) in omega (arith, left)
 
       pub locals-bytes : at + 33 ≤ length rest

@@ -1,5 +1,5 @@
 -- One message, and the walk over the messages of an anchor.
-use Prim.Native.Nat.{ℕ, suc, zero, _+_, _-_, _*_, _≤_, _<_}
+use Prim.Native.Nat.{ℕ, suc, zero, _+_, _-_, _*_, _^_, _≤_, _<_}
 use mathlib.Core.Path.{_≡_, refl, sym, ap, _∙_}
 use mathlib.Core.Bool.{Bool, true, false}
 use mathlib.Core.List.{List, [], _++_}
@@ -17,7 +17,6 @@ use Rattle.range_rules.specs.declared.Walk.{Walk}
 use Rattle.range_rules.specs.Rules.{Outcome, silent, followed, stopped, more, messageRead, messagesRead, expiredOne, expiredOver}
 use Rattle.range_rules.specs.Bounds.{Within, Few}
 use Rattle.range_reader.specs.Ready.{Wrote}
-use Rattle.range_rules.specs.Narrow.{maxOffset}
 use Rattle.range_rules.proofs.Counts.{message-stepped, expired-one-le}
 use Rattle.cache_rules.specs.Rules.{maxMessages, areaBytes}
 
@@ -64,7 +63,7 @@ pub record Turn (x : Context) (routes : List ℕ) (time : ChainTime) (rest : Lis
   pub bytes : at + 33 * left ≤ length rest
   pub near : at + 33 * left ≤ areaBytes
   pub few : left ≤ maxMessages
-  pub fits : w .place .key .«msgs_offset» + left ≤ maxOffset
+  pub fits : w .place .key .«msgs_offset» + left < 2 ^ 16
   pub within : Within x (maxMessages - left) w
   pub used : w .buffers .used ≡ w₀ .buffers .used + length entries
   pub long : length out ≡ length out₀
@@ -72,7 +71,7 @@ pub record Turn (x : Context) (routes : List ℕ) (time : ChainTime) (rest : Lis
   pub walked : messagesRead x routes time (rows 33 left (drop at rest)) (record { value = w; entries = entries }) ≡ messagesRead x routes time (rows 33 n rest) (silent w₀)
 
 module _ (x : Context) (routes : List ℕ) (time : ChainTime) (rest : List ℕ) (n : ℕ) (write : Bool) (out₀ : List ℕ) (w₀ : Walk) where
-  pub turn-start : 33 * n ≤ length rest → w₀ .place .key .«msgs_offset» + n ≤ maxOffset → Few x n w₀ → Turn x routes time rest n write out₀ w₀ out₀ w₀ 0 n
+  pub turn-start : 33 * n ≤ length rest → w₀ .place .key .«msgs_offset» + n < 2 ^ 16 → Few x n w₀ → Turn x routes time rest n write out₀ w₀ out₀ w₀ 0 n
   turn-start b f h = record {
     entries = [];
     bytes = omega arith;

@@ -10,7 +10,7 @@ ghost use Rattle.shard_ident.specs.Shard.{isShard, isOurs};
 ghost use Rattle.router.specs.Router.{partitionOf, routesNumber};
 ghost use Rattle.range_rules.specs.declared.Verdict.the-variants.{Keep, Buffer, Refuse};
 ghost use Rattle.range_rules.specs.Rules.{endReached, raised, movedTo, keyAt, ends, judge, messagesRead, expiredOver, entryLen};
-ghost use Rattle.range_rules.specs.Narrow.{maxOffset, savedEndBefore, walkEnd};
+ghost use Rattle.range_rules.specs.WalkEnd.{savedEndBefore, walkEnd};
 ghost use Rattle.range_reader.specs.Ready.{Ready, Wrote};
 ghost use Rattle.range_rules.specs.Bounds.{Few};
 ghost use Rattle.range_reader.specs.Locals.{stoppedBy, placeAt, progressOf, walkOf, entryAt, bytesOf, verdictAt, taken, entriesOf};
@@ -357,7 +357,7 @@ pub(crate) fn messages_read(
     write: bool,
     out: &mut [u8],
 ) -> Walk
-    requires { ⌜ Ready x (now routes) (now out) × (33 * n ≤ length (now rest)) × (start .place .key .«msgs_offset» + n ≤ maxOffset) × Few x n start × (start .place .reached ≡ endReached (start .place .key) (x .«saved_end»)) ⌝ }
+    requires { ⌜ Ready x (now routes) (now out) × (33 * n ≤ length (now rest)) × (start .place .key .«msgs_offset» + n < 2 ^ 16) × Few x n start × (start .place .reached ≡ endReached (start .place .key) (x .«saved_end»)) ⌝ }
     ensures { λ r. ⌜ Wrote write (start .buffers .used) (now (out .entry)) (now (out .exit)) r (messagesRead x (now (routes .entry)) time (rows 33 n (now (rest .entry))) (record { value = start; entries = [] })) ⌝ }
 {
     let place = start.place;

@@ -1,7 +1,7 @@
 pub mod ByStep
 pub mod Counts
 pub mod Walks
-pub mod Narrow
+pub mod WalkEnd
 pub mod Positions
 pub mod Conservation
 pub mod Eleven

@@ -1,4 +1,4 @@
 pub mod Rules
-pub mod Narrow
+pub mod WalkEnd
 pub mod Bounds
 pub mod Refusals

@@ -2,7 +2,7 @@
 use mathlib.Core.Path.{sym, ap, _∙_}
 use borrow.Author.Needs.{needs}
 use Rattle.range_rules.specs.declared.ReadNextExternalsMode.{ReadNextExternalsMode}
-use Rattle.range_rules.specs.Narrow.{walkEnd}
+use Rattle.range_rules.specs.WalkEnd.{walkEnd}
 use Rattle.range_reader.proofs.messages.walk_end.Statement.{statement}
 use Rattle.range_reader.proofs.messages.walk_end.Tie as tie
 

@@ -8,10 +8,6 @@ use Rattle.ext_types.specs.declared.ExternalKey.{ExternalKey}
 use Rattle.range_rules.specs.declared.ReadNextExternalsMode.{ReadNextExternalsMode}
 use Rattle.range_rules.specs.declared.ReadNextExternalsMode.the-variants.{ToTheEnd, ToPreviuosReadTo}
 
--- the largest offset that 16 bits hold
-abbrev pub maxOffset : ℕ
-maxOffset = 65535
-
 -- from a key on: the offset at which the saved end is reached, but `last` where that is not before it
 abbrev pub savedEndBefore : ExternalKey → ExternalKey → ℕ → ℕ
 savedEndBefore end key last =

@@ -16,7 +16,7 @@ use Rattle.range_rules.specs.declared.ReadNextExternalsMode.{ReadNextExt
 use Rattle.range_rules.specs.declared.ReadNextExternalsMode.the-variants.{ToTheEnd, ToPreviuosReadTo}
 use Rattle.range_rules.specs.declared.Walk.{Walk}
 use Rattle.range_rules.specs.Rules.{silent, endReached, keyAt, ends, messagesRead}
-use Rattle.range_rules.specs.Narrow.{walkEnd}
+use Rattle.range_rules.specs.WalkEnd.{walkEnd}
 
 -- for every saved end, in both modes: up to its end, the walk is at its end exactly where the saved end is reached
 pub the-narrow-end-is-the-64-bit-end : (mode : ReadNextExternalsMode) (end : ExternalKey) (id first last offset : ℕ) → first ≤ offset → offset < last → offset ≤ walkEnd mode end (keyAt id first) last → eqb offset (walkEnd mode end (keyAt id first) last) ≡ ends mode (endReached (keyAt id offset) end)
