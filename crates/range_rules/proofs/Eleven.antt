@@ -6,7 +6,7 @@ use mathlib.Core.Bool.{Bool, true, false, not, _||_}
 use mathlib.Core.List.{List, [], _∷_}
 use native.Mathlib.Omega.{arith}
 use lib.Dec.{eqb, ltb, leb}
-use lib.ListN.{length, getD, length-drop, drop-of-length-le}
+use lib.ListN.{length, getD, length-drop}
 use borrow.Author.Tests.{ltb-true, ltb-false, eqb-true, eqb-false, eq-eqb, ne-eqb, le-ltb}
 use Rattle.rows.specs.Rows.{pick}
 use Rattle.rows.proofs.Laws.{pick-yes, pick-no, pick-both, never}
@@ -28,6 +28,7 @@ use Rattle.range_rules.specs.declared.Verdict.the-variants.{Keep, Buffer
 use Rattle.range_rules.specs.Rules.{Outcome, silent, followed, keyAt, endReached, advanced, ends, full, stopped, judge, noProcessed, refusedWith, readOne, bufferOne, after, verdictOn, ourRead, messageRead, messagesRead, popped, offsetIn, lookKey, looked, expiredOver, expired, leave, afterPop, isWhole, finished, unread, walked, anchorRead, entryLen}
 use Rattle.range_rules.proofs.Counts.{stopped-full}
 use Rattle.range_rules.proofs.Walks.{walk-all}
+use Rattle.range_rules.proofs.WalkEnd.{past-the-count-no-message-is-walked}
 
 -- ---- the walk's own refusals are 12, 13 and 14
 module _ (x : Context) (routes : List ℕ) (time : ChainTime) where
@@ -147,10 +148,6 @@ stopped-ends x w = go (not (eqb (w .number) 0)) (full (w .buffers)) (ends (x .mo
     go false true c e = never e
     go false false c e = e
 
-walk-none : (x : Context) (routes : List ℕ) (time : ChainTime) (s : Outcome Walk) → messagesRead x routes time [] s ≡ s
-unfolding messagesRead
-walk-none x routes time s = refl
-
 module _ (x : Context) (routes : List ℕ) (id : ℕ) (time : ChainTime) (l : List (List ℕ)) (r : RangeRead) (zero : r .walk .number ≡ 0) where
   abbrev here : Walk
   here = looked x id (r .walk)
@@ -169,7 +166,7 @@ module _ (x : Context) (routes : List ℕ) (id : ℕ) (time : ChainTime) (l : Li
   unmoved h =
       let o : here .place .key .«msgs_offset» ≡ offsetIn (x .position) id = ap (λ (k : ExternalKey). k .«msgs_offset») key-here in
       let g : length l ≤ here .place .key .«msgs_offset» = omega arith in
-      ap (λ (m : List (List ℕ)). messagesRead x routes time m (silent here) .value) (drop-of-length-le l g) ∙ ap (λ (s : Outcome Walk). s .value) (walk-none x routes time (silent here))
+      ap (λ (s : Outcome Walk). s .value) (past-the-count-no-message-is-walked x routes time l (here .place .key .«msgs_offset») here g)
 
   not-moving : expiredAt (x .«chain_time») time (x .limit) ≡ false → finished x time (length l) reading r .walk .number ≡ 11 → NotMovingOn x id time l r
   not-moving u e =
