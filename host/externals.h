@@ -148,9 +148,7 @@ typedef struct {
     ext_reader reader;
 } ext_externals;
 
-/* What a read of one range changes, and what it is told. `to_previous`: only to the end that was read to before.
- * `strict`: an expired anchor at which that end is reached stays in the cache, uncounted, and the range is fully read;
- * without `to_previous` it means nothing. */
+/* What a read of one range changes, and what it is told. `to_previous`: only to the end that was read to before. */
 typedef struct {
     ext_transaction transaction;
     ext_range range;
@@ -167,7 +165,6 @@ typedef struct {
     ext_processed_to processed[EXT_PARTITIONS];
     ext_seconds timeout;
     bool to_previous;
-    bool strict;
 } ext_range_settings;
 
 typedef struct { uint16_t by_partitions[EXT_PARTITIONS]; } ext_buffer_limits;
@@ -258,8 +255,8 @@ uint8_t ext_drop_last_read_to_anchor_chain_time(ext_reader *reader);
 ext_partition_ids ext_get_partition_ids(ext_reader reader);
 ext_next_range ext_create_next_externals_range_state(ext_reader reader);
 
-/* ---- the reads. `refill`: the mode Refill, else Continue. `strict`: every range but the block's own is read so. */
-ext_all_answer ext_read_into_buffers(ext_externals *e, uint8_t *out, size_t out_len, const uint8_t *tables, size_t tables_len, const uint8_t *area, size_t area_len, const uint8_t *routes, size_t routes_len, bool refill, bool strict);
+/* ---- the reads. `refill`: the mode Refill, else Continue. */
+ext_all_answer ext_read_into_buffers(ext_externals *e, uint8_t *out, size_t out_len, const uint8_t *tables, size_t tables_len, const uint8_t *area, size_t area_len, const uint8_t *routes, size_t routes_len, bool refill);
 ext_range_answer ext_read_externals_into_buffers(ext_range_and_cache *e, uint8_t *out, size_t out_len, const uint8_t *tables, size_t tables_len, const uint8_t *area, size_t area_len, const uint8_t *routes, size_t routes_len, ext_range_settings settings);
 /* The free places of a range as it stands. */
 ext_free_answer ext_get_max_buffers_fill_state(ext_buffer_limits limits, ext_range range);

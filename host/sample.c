@@ -47,8 +47,7 @@ int main(void) {
     if (add(2, (ext_chain_time){2000}, 2, (int8_t[]){0, -1, 0}, 3) != 0) return 1;
 
     printf("open %d\n", ext_open(&e.transaction, tables, sizeof tables, area, sizeof area));
-    ext_all_answer read =
-        ext_read_into_buffers(&e, out, sizeof out, tables, sizeof tables, area, sizeof area, out, 0, false, false);
+    ext_all_answer read = ext_read_into_buffers(&e, out, sizeof out, tables, sizeof tables, area, sizeof area, out, 0, false);
     printf("read %d\n", read.number);
     if (read.free.present) printf("free %d\n", read.free.places);
     show_entries(read.used);

@@ -2,7 +2,7 @@
 """Random sessions through extread and extprobe, compared with the Rust original.
 
     tests/differ.py extread  [--kind plain|malformed|caps|mixed] [--seed N] [--count K]
-    tests/differ.py extprobe [--kind reader|beyond|range|strict|mixed|..] [--seed N] [--count K]
+    tests/differ.py extprobe [--kind reader|beyond|range|mixed|..] [--seed N] [--count K]
     tests/differ.py cuts     [--kind plain|..] [--seed N] [--count K]     extread on each session cut at every byte
     tests/differ.py long                                                  extread on anchors of 511 to 65,535 messages
     also: --program FILE, --oracle FILE, --valgrind (the program under valgrind, which must find nothing)

@@ -4,8 +4,7 @@
     tests/fixed_list.py [--oracle FILE]     writes crates/extprobe/stdin and stdout
     tests/fixed_list.py --list              numbers and names of the sessions
 
-First extread's sessions (extread_list.py), then extprobe's: the hand-made ones below and random ones of gen_sessions.py,
-behind them those of the strict read, hand-made and random.
+First extread's sessions (extread_list.py), then extprobe's: the hand-made ones below and random ones of gen_sessions.py.
 The expected output is what the Rust original prints (`oracle`, `oracle -x`), never what extprobe prints.
 """
 import argparse
@@ -17,10 +16,8 @@ from differ import TOP, by_oracle, framed, gen_sessions as g  # noqa: E402
 import extread_list  # noqa: E402
 from gen_sessions import A, CLOSE, COMMIT, FULL, HALF, NONE, OPEN, POP, READ, REFILL, ROLLBACK  # noqa: E402
 from gen_sessions import acc, anchor, do, one, places, put_partition, put_range, rec, route, settings, shard  # noqa: E402
-from gen_sessions import strict_one, strict_read  # noqa: E402
 
 RANDOM = {'range': 60, 'beyond': 60, 'reader': 102, 'mixed': 20, 'infos': 20}    # how many of each kind
-STRICT = {'strict': 40}
 TOP64 = 2**64 - 1
 OURS, OTHER = (0, A), (-1, A)
 B = acc(0, 1)
@@ -629,248 +626,16 @@ def far_processed():
     return res
 
 
-# for ranges at chain time 100,000 all but the third are expired by 60 seconds
-FOUR = [anchor(1, 1000, 1, [OURS]), anchor(2, 2000, 2, [OURS] * 2), anchor(3, 90000, 2, [OURS] * 2),
-        anchor(4, 4000, 1, [OURS])]
-OLD, OLDER, YOUNG, LAST = FOUR
-
-
-def aging(pos, to=None, ct=100000, **more):
-    return at(pos, to, ct, **more)
-
-
-def strictly(*recs, head=HEAD, mode=PREVIOUS):
-    """The records, the last of them range 5. Then its strict read and, the cache rolled back and the range put again,
-    the present one."""
-    return head + list(recs) + [do(OPEN), strict_one(5, mode), do(ROLLBACK), recs[-1], one(5, mode), do(CLOSE)]
-
-
-def strict_all(*recs, head=HEAD, mode=0):
-    """The records, then two strict reads of all ranges."""
-    return head + list(recs) + [do(OPEN), strict_read(mode), strict_read(mode), do(CLOSE)]
-
-
-def in_both_modes(name, *recs, head=HEAD):
-    return {name: strict_all(*recs, head=head), name + '_refill': strict_all(*recs, head=head, mode=1)}
-
-
-def strict_ends():
-    """Ticket 6 of document 02: an expired anchor at which the saved end is reached stays."""
-    end, third = aging((0, 0), (1, 0), seqno=4), anchor(3, 90000, 1, [OURS])
-    return {
-        'strict_example': HEAD + [OLD, OLDER, third, end, do(OPEN), strict_one(4, PREVIOUS), do(ROLLBACK), end,
-                                  one(4, PREVIOUS), do(CLOSE)],
-        # reached by equal id and equal offset, also at the message count and past it, or by an id above
-        'strict_equal_key': strictly(*FOUR, aging((2, 1))),
-        'strict_equal_key_offset_0': strictly(*FOUR, aging((0, 0), (2, 0))),
-        'strict_equal_key_at_the_count': strictly(*FOUR, aging((2, 2))),
-        'strict_equal_key_past_the_count': strictly(*FOUR, aging((2, 3))),
-        'strict_equal_key_largest_id': strictly(anchor(2**32 - 1, 5, 1, [OURS]), aging((2**32 - 1, 0))),
-        'strict_id_above': strictly(OLDER, YOUNG, aging((0, 0), (1, 9))),
-        # not reached, so taken as ever; then the next one stays
-        'strict_offset_below': strictly(OLDER, YOUNG, aging((2, 0), (2, 1))),
-        'strict_offset_below_then_the_next': strictly(OLDER, LAST, aging((2, 0), (2, 1))),
-        'strict_offset_above': strictly(OLDER, YOUNG, aging((2, 2), (2, 1))),
-        'strict_offset_above_then_the_next': strictly(OLDER, LAST, aging((2, 1), (2, 0))),
-        # below the position: popped by step 2, whatever age and saved end
-        'strict_below_the_position': strictly(*FOUR, aging((3, 1))),
-        'strict_below_the_position_above_the_end': strictly(*FOUR, aging((3, 0), (1, 0))),
-        'strict_below_the_position_then_stays': strictly(*FOUR, aging((4, 0), (1, 0))),
-        'strict_only_below_the_position': strictly(*FOUR, aging((5, 0))),
-        'strict_position_of_no_anchor': strictly(OLD, LAST, aging((2, 5))),
-        # unexpired at the saved end: as ever, popped where nothing is left of it
-        'strict_unexpired': strictly(YOUNG, LAST, aging((3, 1))),
-        'strict_unexpired_at_the_count': strictly(YOUNG, LAST, aging((3, 2))),
-        'strict_unexpired_id_above': strictly(YOUNG, LAST, aging((0, 0), (1, 0))),
-        'strict_unexpired_read_to_the_end': strictly(YOUNG, LAST, aging((3, 0), (3, 1))),
-        # several: the first that stays ends the read
-        'strict_several_past_the_end': strictly(OLD, OLDER, anchor(3, 3000, 2, [OURS] * 2), LAST, aging((0, 0))),
-        'strict_before_and_past_the_end': strictly(OLD, OLDER, LAST, aging((0, 0), (1, 1))),
-        'strict_taken_read_and_left': strictly(*FOUR, aging((0, 0), (3, 5))),
-        'strict_end_above_all': strictly(*FOUR, aging((0, 0), (9, 0))),
-        'strict_none_cached': strictly(aging((2, 1), (9, 9))),
-        'strict_fully_read_before': strictly(*FOUR, aging((2, 1), fully=1)),
-        # mode 0 is that of 0111
-        'strict_to_the_end': strictly(*FOUR, aging((0, 0), (1, 0)), mode=END),
-    }
-
-
-def strict_buffers():
-    """A full buffer doesn't keep a range from being fully read at an anchor that stays. Of that one nothing counts."""
-    two, mixed = {0: (0, 0, 0), 1: (0, 0, 0)}, anchor(1, 1000, 2, [OURS, OURS_B, OTHER, OURS_B])
-    ours_b = [route(0, B, 1), mixed, anchor(2, 900, 2, [OURS_B, OURS]), LAST]
-    by_reading = [limits(2), strict_one(5, PREVIOUS), strict_one(5, PREVIOUS), took(5, 0, 1), strict_one(5, PREVIOUS)]
-    return {
-        'strict_full_at_entry': strictly(*FOUR, aging((0, 0)), head=with_limits(0)),
-        'strict_full_then_taken_then_stays': strictly(OLD, OLDER, aging((0, 0), (1, 1)), head=with_limits(0)),
-        'strict_full_by_reading': HEAD + [YOUNG, LAST, aging((0, 0), (3, 5)), do(OPEN)] + by_reading + [do(CLOSE)],
-        'strict_without_partitions': strictly(*FOUR, aging((0, 0), parts={})),
-        'strict_counts_by_partition': strictly(*ours_b, aging((1, 1), (3, 0), parts=two), head=with_limits(9, 9)),
-        'strict_counts_nothing': strictly(*ours_b, aging((1, 1), parts=two), head=with_limits(9, 9)),
-        'strict_processed': strictly(YOUNG, LAST, put_partition(0, (3, 1)), aging((0, 0), (4, 0))),
-        'strict_processed_past_it': strictly(*FOUR, put_partition(0, (4, 1)), aging((0, 0), (1, 0))),
-    }
-
-
-def strict_ages():
-    """Expired is above the limit, by the range's chain time."""
-    old, none, most = anchor(2, 1000, 2, [OURS] * 2), with_limits(9, timeout=0), with_limits(9, timeout=2**32 - 1)
-    limit = 1000 * (2**32 - 1)
-    return {
-        'strict_age_60000': strictly(old, aging((2, 2), ct=61000)),
-        'strict_age_60001': strictly(old, aging((2, 2), ct=61001)),
-        'strict_age_0_timeout_0': strictly(old, aging((2, 2), ct=1000), head=none),
-        'strict_age_1_timeout_0': strictly(old, aging((2, 2), ct=1001), head=none),
-        'strict_age_below_0': strictly(old, aging((2, 2), ct=0), head=none),
-        'strict_age_largest_timeout': strictly(old, aging((2, 2), ct=limit + 1000), head=most),
-        'strict_age_above_the_largest_timeout': strictly(old, aging((2, 2), ct=limit + 1001), head=most),
-        'strict_age_by_the_range': strictly(old, aging((2, 2), ct=1000), head=with_limits(9, ct=100000)),
-    }
-
-
-def strict_far():
-    """Offsets that 16 or 32 bits cut to a place in the anchor, which would make the end reached or not reached."""
-    res = {
-        'strict_far_top': strictly(OLDER, LAST, aging((2, TOP64))),
-        'strict_far_top_of_an_id_below': strictly(OLDER, LAST, aging((0, 0), (1, TOP64))),
-    }
-    for bits in (16, 32):
-        name, far = 'strict_far_2_%d_plus_1_' % bits, (2, 2**bits + 1)
-        res.update({
-            name + 'end': strictly(OLDER, LAST, aging((2, 1), far)),
-            name + 'position': strictly(OLDER, LAST, aging(far, (2, 1))),
-            name + 'both': strictly(OLDER, LAST, aging(far)),
-            name + 'end_position_below': strictly(OLDER, LAST, aging((2, 2**bits - 1), far)),
-            name + 'in_all': strict_all(OLDER, LAST, aging(far, seqno=3), aging((2, 1), far, seqno=4), mode=1),
-        })
-    return res
-
-
-def strict_reads():
-    """The strict read of all: the block's own range to the end, in `Refill` not at all, any other strict."""
-    first, second, own = aging((0, 0), (1, 0), seqno=3), aging((1, 0), (3, 1), seqno=4), aging((1, 0), (1, 1))
-    skipped, read = [aging((0, 0), (1, 0), seqno=3, **more) for more in ({'parts': {0: (0, 1, 1)}}, {'fully': 1})]
-    return {
-        **in_both_modes('strict_all_one_older', *FOUR, first),
-        'strict_all_one_older_present': HEAD + FOUR + [first, do(OPEN), do(READ), do(READ), do(CLOSE)],
-        'strict_all_one_older_refill_present': HEAD + FOUR + [first, do(OPEN), do(REFILL), do(REFILL), do(CLOSE)],
-        **in_both_modes('strict_all_two_older', *FOUR, first, second),
-        **in_both_modes('strict_all_own', *FOUR, own),
-        **in_both_modes('strict_all_older_and_own', *FOUR, first, own),
-        **in_both_modes('strict_all_above_the_own', *FOUR, own, aging((2, 0), seqno=6)),
-        **in_both_modes('strict_all_skipped', *FOUR, skipped, second),
-        **in_both_modes('strict_all_fully_read_before', *FOUR, read, second),
-        'strict_all_none_cached': strict_all(first, second),
-    }
-
-
-def strict_read_on():
-    """What follows a range whose anchor stays: the next range, the one appended, what the reader keeps."""
-    first, second = aging((0, 0), (1, 0), seqno=3), aging((1, 0), (3, 1), seqno=4)
-    full = aging((0, 0), (1, 0), seqno=3, parts={0: (2, 0, 0)})
-    ours_b = [route(0, B, 1), anchor(1, 1000, 3, [OURS_B, OURS, OURS_B]), OLDER]
-    times = [history(1, 500), history(2, 900), cached(3, 1000, 1, [OURS]), history(3, 1000)]
-    return {
-        # the range appended begins at a "to" that didn't grow, and reads or expires what stayed
-        'strict_all_then_made': strict_all(OLD, OLDER, first),
-        'strict_all_then_made_late': strict_all(*FOUR, first, head=settled(ct=100000)),
-        'strict_all_settings_wait': strict_all(*FOUR, first, head=settled(waiting=1)),
-        'strict_all_open_limit': strict_all(*FOUR, first, second, head=settled(most=2)),
-        'strict_all_mark_is_set': strict_all(*FOUR, first, marks(1, 77)),
-        # what stayed for an earlier range is taken, popped, left or read by a later one
-        'strict_all_taken_by_the_next': strict_all(*FOUR, first, aging((0, 0), (4, 1), seqno=4), mode=1),
-        'strict_all_popped_by_the_next': strict_all(*FOUR, first, aging((2, 0), seqno=4), mode=1),
-        'strict_all_left_by_the_next': strict_all(*FOUR, first, aging((1, 0), seqno=4), mode=1),
-        'strict_all_read_by_the_next': strict_all(*FOUR, first, at((0, 0), (2, 2), seqno=4), mode=1),
-        # a full buffer ends the call in a range not fully read alone
-        **in_both_modes('strict_all_full', *FOUR, full, second, head=settled(limits=[2])),
-        'strict_all_full_before': strict_all(YOUNG, LAST, aging((3, 0), (3, 9), seqno=3), aging((4, 0), seqno=4),
-                                             mode=1, head=settled(limits=[1])),
-        # the last chain time, of the anchor that stays or none; the counts; the history, which stays too
-        'strict_all_last_time': strict_all(*FOUR, marks(0, 77), first, mode=1),
-        'strict_all_last_time_none': strict_all(OLD, marks(0, 77), first, aging((2, 0), seqno=4), mode=1),
-        'strict_all_counts': strict_all(*ours_b, aging((0, 0), (1, 1), seqno=4, parts={0: (0, 0, 0), 1: (0, 0, 0)}),
-                                        head=settled(limits=[9, 9])),
-        'strict_all_history': strict_all(*times, aging((0, 0), (2, 0), seqno=4), mode=1),
-    }
-
-
-def strict_transactions():
-    """The transaction rule covers both reads."""
-    cache, five, four = HEAD + FOUR, aging((0, 0), (2, 0)), aging((0, 0), (1, 0), seqno=4)
-    strict, present, pending = strict_one(5, PREVIOUS), one(5, PREVIOUS), function(12)
-    return {
-        'strict_present_rollback_close': cache + [five, do(OPEN), strict, present, do(ROLLBACK), do(CLOSE)],
-        'strict_close': cache + [five, do(OPEN), strict, do(CLOSE), do(POP)],
-        'strict_commit_close': cache + [five, do(OPEN), strict, do(COMMIT), do(CLOSE), do(POP)],
-        'strict_commit_rollback_close': cache + [five, do(OPEN), strict, do(COMMIT), do(ROLLBACK), do(CLOSE)],
-        'strict_after_present': cache + [five, do(OPEN), present, strict, do(COMMIT), do(CLOSE)],
-        'strict_among_reads': cache + [five, do(OPEN), one(5, END), do(ROLLBACK), five, strict, do(POP), strict,
-                                       strict_one(5, END), do(ROLLBACK), five, strict, do(COMMIT), do(CLOSE)],
-        'strict_and_trims': cache + [five, do(OPEN), trim(1500), strict, do(ROLLBACK), five, trim(0), strict,
-                                     do(ROLLBACK)],
-        'strict_last_one_stays': HEAD + [OLD, aging((1, 0)), do(OPEN), strict, pending, do(COMMIT), do(CLOSE), pending],
-        'strict_all_commit_close': cache + [four, do(OPEN), strict_read(1), do(COMMIT), do(CLOSE), do(OPEN),
-                                            function(20), strict_read(0)],
-        'strict_all_rollback_present': cache + [four, do(OPEN), strict_read(0), do(ROLLBACK), function(20), do(READ)],
-    }
-
-
-def strict_refusals():
-    """Each refusal of a read; of what lies at the anchor that stays, or behind it, none is met."""
-    young, five, six = [anchor(3, 95000, 2, [OURS] * 2), LAST], aging((0, 0), (4, 0)), strict_one(6, PREVIOUS)
-    gone, fifth = put_partition(0, (0, 0), present=0), {0: (0, 0, 0), 5: (0, 0, 0)}
-    asked = [strict_one(5, PREVIOUS), six, strict_read(0), strict_read(1)]
-    in_second = lambda *recs: strict_all(*FOUR, aging((0, 0), (1, 0), seqno=3), *recs, mode=1)
-    return {
-        'strict_1_9_15': HEAD + FOUR + [aging((2, 1)), *asked, area(33791), *asked, area(33792), do(OPEN), *asked,
-                                        area(0), *asked],
-        'strict_10': strictly(*FOUR, aging((2, 1), parts=fifth)),
-        'strict_11': strictly(YOUNG, LAST, aging((3, 4), (3, 5))),
-        'strict_11_after_pops': strictly(*FOUR, aging((3, 4), (3, 3))),
-        'strict_11_not_where_it_stays': strictly(OLDER, LAST, aging((2, 4))),
-        'strict_12': strictly(*young, gone, five),
-        'strict_12_not_where_it_stays': strictly(*FOUR, gone, aging((2, 0))),
-        'strict_13': strictly(*young, aging((0, 0), (4, 0), parts={})),
-        'strict_13_not_where_it_stays': strictly(*FOUR, aging((2, 0), parts={})),
-        'strict_14': strictly(*young, places(1), five),
-        'strict_14_two_places': strictly(*young, places(2), five),
-        'strict_14_not_where_it_stays': strictly(*FOUR, places(0), aging((2, 0))),
-        # in the second range, the first having left an anchor: everything as at entry
-        'strict_all_10': in_second(aging((1, 0), (3, 1), seqno=4, parts=fifth)),
-        'strict_all_11': in_second(aging((3, 4), (3, 5), seqno=4)),
-        'strict_all_12': in_second(aging((3, 0), (3, 1), seqno=4), gone, put_partition(1, (0, 0))),
-        'strict_all_13': in_second(aging((3, 0), (3, 1), seqno=4, parts={})),
-        'strict_all_14': in_second(aging((3, 0), (3, 1), seqno=4), places(0)),
-        **{'strict_17_of_%d_bytes' % n: HEAD + [do(OPEN), rec(0x130, bytes(n))] for n in (4, 6)},
-        **{'strict_all_17_of_%d_bytes' % n: HEAD + [do(OPEN), rec(0x131, bytes(n))] for n in (0, 2)},
-        'strict_17_mode_2': HEAD + [do(OPEN), strict_one(5, 2)],
-        'strict_all_17_mode_2': HEAD + [do(OPEN), strict_read(2)],
-        'strict_17_next_kind': HEAD + [do(OPEN), strict_read(1), six, rec(0x132, bytes(1))],
-    }
-
-
-def joined(*groups):
-    """The groups of hand-made sessions, no name twice."""
-    named = {}
-    for group in groups:
-        assert not named.keys() & group.keys()
-        named.update(group)
-    return [(n, g.flat(recs)) for n, recs in named.items()]
-
-
-def at_random(kinds):
-    return [('%s %d' % (kind, i), g.session(i, kind, far_offsets=False))
-            for kind, n in kinds.items() for i in range(1, n + 1)]
-
-
 def sessions():
     """Names and bytes, in the list's order."""
+    named = {}
     far = (far_ends(), far_positions(), other_positions(), far_processed())
-    first = joined(refusals(), walks(), caches(), whole_reads(), functions(), infos(), free_places(), *far)
-    strict = joined(strict_ends(), strict_buffers(), strict_ages(), strict_far(), strict_reads(), strict_read_on(),
-                    strict_transactions(), strict_refusals())
-    return first + at_random(RANDOM) + strict + at_random(STRICT)
+    for group in (refusals(), walks(), caches(), whole_reads(), functions(), infos(), free_places(), *far):
+        assert not named.keys() & group.keys()
+        named.update(group)
+    some = [('%s %d' % (kind, i), g.session(i, kind, far_offsets=False))
+            for kind, n in RANDOM.items() for i in range(1, n + 1)]
+    return [(n, g.flat(recs)) for n, recs in named.items()] + some
 
 
 def main():

@@ -184,8 +184,6 @@ RECORDS = {
     'in_range': lambda w: x.in_range(w.bare(32), w.bare(64)),
     'new': lambda w: x.NEW,
     'info': lambda w: g.rec(0x117, put_history(w)[6:]),
-    'strict_one': lambda w: g.strict_one(w.named('seqno', 32), w.named('mode', 8)),
-    'strict_read': lambda w: g.strict_read(w.named('mode', 8)),
     'hex': lambda w: b''.join(raw(t) for t in w.rest()),
     **{name: lambda w, n=n: g.do(n) for n, name in enumerate(DOS, 1)},
 }
@@ -248,7 +246,6 @@ def line_of(kind, p):
         0x102: ('partition %d present:%d processed:%d,%d offset:%d', 'BBIQI'), 0x104: ('places %d', 'I'), 0x108: ('area %d', 'I'),
         0x110: ('trim time_ms:%d', 'Q'), 0x111: ('one seqno:%d mode:%d', 'IB'), 0x112: ('took seqno:%d partition:%d messages:%d', 'IBI'),
         0x113: ('function %d partition:%d flag:%d', 'BBB'), 0x114: ('info_at time_ms:%d', 'Q'), 0x115: ('in_range %d,%d', 'IQ'), 0x116: ('new', ''),
-        0x130: ('strict_one seqno:%d mode:%d', 'IB'), 0x131: ('strict_read mode:%d', 'B'),
     }
     if kind == 0x105 and len(p) == 16:
         return 'limits ' + some(n('8H'))
@@ -315,8 +312,6 @@ range seqno:5 from:1,0 to:1,2 position:1,0 time_ms:1000 fully_read:0 p0:1,2
 range seqno:5 from:1,0 to:1,2 position:1,0 time_ms:1000 fully_read:0 p1:1,2,3 p0:1,2,3
 partition 0 present:1 processed:1 offset:0
 took seqno:5 partition:0
-strict_one seqno:5
-strict_read refill:1
 function
 hex 0
 hex 0g
@@ -366,10 +361,10 @@ def spoilt(r, text):
 
 def try_random(program, count):
     """Random sessions as text: their own bytes come out. Then with a few bytes spoilt."""
-    kinds = ('plain', 'malformed', 'beyond', 'range', 'reader', 'strict', 'caps')
+    kinds = ('plain', 'malformed', 'beyond', 'range', 'reader', 'caps')
     r, wrong = g.random.Random(1), 0
     for i in range(count):
-        session = g.session(i, kinds[i % 6 if i % 20 else 6])
+        session = g.session(i, kinds[i % 5 if i % 20 else 5])
         text = text_of(session).encode()
         assert compare(program, text) == '' and made(text) == (session, 0), i
         wrong += compare(program, spoilt(r, text)) != ''

@@ -148,7 +148,6 @@ struct RangeSettings {
     processed: [ProcessedTo; 8],
     timeout: u32,
     to_previous: bool,
-    strict: bool,
 }
 
 #[repr(C)]
@@ -199,7 +198,7 @@ unsafe extern "C" {
     fn ext_pop_front(t: *mut Transaction, tables: *const u8, tables_len: usize, area: *const u8, area_len: usize) -> AnchorShown;
     fn ext_add(t: *mut Transaction, tables: *mut u8, tables_len: usize, area: *mut u8, area_len: usize, anchor: MempoolAnchor, our_exts_count: u32, messages: *const u8, messages_len: usize) -> u8;
     fn ext_new_reader(reader: *mut Reader) -> u8;
-    fn ext_read_into_buffers(e: *mut Externals, out: *mut u8, out_len: usize, tables: *const u8, tables_len: usize, area: *const u8, area_len: usize, routes: *const u8, routes_len: usize, refill: bool, strict: bool) -> AllAnswer;
+    fn ext_read_into_buffers(e: *mut Externals, out: *mut u8, out_len: usize, tables: *const u8, tables_len: usize, area: *const u8, area_len: usize, routes: *const u8, routes_len: usize, refill: bool) -> AllAnswer;
     fn ext_read_externals_into_buffers(e: *mut RangeAndCache, out: *mut u8, out_len: usize, tables: *const u8, tables_len: usize, area: *const u8, area_len: usize, routes: *const u8, routes_len: usize, settings: RangeSettings) -> RangeAnswer;
 }
 
@@ -288,7 +287,6 @@ impl Lent {
                 routes.as_ptr(),
                 routes.len(),
                 false,
-                false,
             )
         }
     }
@@ -360,7 +358,6 @@ fn settings(reader: &Reader) -> RangeSettings {
             .map(|p| ProcessedTo { key: p.processed_to, present: p.present }),
         timeout: reader.params.timeout,
         to_previous: false,
-        strict: false,
     }
 }
 

@@ -6,9 +6,9 @@
   gen_sessions.py --every 5 --dir D            all sequences of five do bytes over one cache
   gen_sessions.py --sample                     document 01's sample session
   gen_sessions.py --named NAME                 a small hand-made session (see --list)
-  --kind plain|malformed|caps|mixed|beyond|range|reader|infos|strict
+  --kind plain|malformed|caps|mixed|beyond|range|reader
                                                (mixed: mostly plain; the default;
-                                                the last five: for `oracle -x` only)
+                                                beyond, range, reader: for `oracle -x` only)
 """
 import argparse
 import itertools
@@ -19,7 +19,6 @@ import sys
 
 OPEN, POP, READ, REFILL, COMMIT, ROLLBACK, CLOSE = range(1, 8)
 NONE = 0xFFFF
-ANCHORS = (b'\x04\x00', b'\x07\x01')    # the kinds 0004 and 0107
 
 
 def rec(kind, payload):
@@ -473,14 +472,6 @@ def places(n):
 
 def one(seqno, to_previous):
     return rec(0x111, struct.pack('<IB', seqno, to_previous))
-
-
-def strict_one(seqno, to_previous):
-    return rec(0x130, struct.pack('<IB', seqno, to_previous))
-
-
-def strict_read(refill):
-    return rec(0x131, bytes([refill]))
 
 
 def one_range(r):
@@ -967,90 +958,6 @@ def with_infos(r, recs):
     return out
 
 
-def strictly(r, read, seqnos):
-    """A read made strict: of all ranges, or of one of these. A few are malformed."""
-    if read[4:6] == b'\x05\x00' and (not seqnos or r.random() < 0.6):
-        res = strict_read(read[6] == REFILL)
-    elif r.random() < 0.1:
-        res = strict_read(r.randint(0, 1))
-    else:
-        seqno = read[6:10] if read[4:6] == b'\x11\x01' else r.choice(seqnos)
-        res = rec(0x130, seqno + bytes([r.random() < 0.85]))
-    if r.random() < 0.003:
-        kind, p = int.from_bytes(res[4:6], 'little'), res[6:]
-        res = rec(kind, r.choice([p[:-1], p + b'\x00', p[:-1] + bytes([r.choice([2, 255])])]))
-    return res
-
-
-def aged(r, one):
-    """An anchor's record with a chain time of 0 to 5."""
-    return one[:10] + struct.pack('<Q', r.randint(0, 5)) + one[18:]
-
-
-def ended(r, one, head, sizes, old):
-    """Record 0101, mostly not fully read and so late that the old anchors are expired, with a saved end that is reached
-    at one of them, or just not there."""
-    aid = r.choice(old)
-    offset = r.choice([0, sizes[aid], r.randint(0, sizes[aid])])
-    x = r.random()
-    if x < 0.35:
-        to = pos = (aid, offset)
-    elif x < 0.45:
-        to, pos = (aid, offset), (aid, max(0, offset + r.choice([-1, -1, 1])))
-    else:
-        to = r.choice([a for a in sizes if a < aid][-2:] or [max(0, aid - 1)])
-        to = (to, r.choice([0, sizes.get(to, 0), r.randint(0, 3)]))
-        pos = min(to, struct.unpack('<IQ', one[34:46])) if r.random() < 0.7 else to
-    limit = 1000 * int.from_bytes(head[14:18], 'little')
-    ct = max(int.from_bytes(one[46:54], 'little'), limit + r.choice([1, 5, 6, 6, 100]) if r.random() < 0.9 else 0)
-    return one[:22] + struct.pack('<IQIQQB', *to, *pos, min(ct, 2**64 - 1), r.random() < 0.03) + one[55:]
-
-
-def old_anchors(r, recs, sizes, old):
-    """Two, where no anchor is old and none is added later."""
-    if old or any(x[4:6] in ANCHORS for x in recs[recs.index(do(OPEN)):]):
-        return []
-    some = [(struct.unpack('<b', x[6:7])[0], x[7:39]) for x in recs if x[4:6] == b'\x02\x00'] or [(0, A)]
-    out, last = [], max(sizes, default=0)
-    for aid in range(last + 1, min(last + 3, 2**32)):
-        n = r.randint(1, 4)
-        out.append(aged(r, anchor(aid, 0, r.randint(1, n), r.choices(some, k=n))))
-        sizes[aid] = n
-        old.append(aid)
-    return out
-
-
-def with_strict(r, recs):
-    """The same records with about half of the anchors' chain times 0 to 5, which most ranges find expired, saved ends
-    that are reached there, and 60 of 100 reads strict. About the first open a range and a strict read are often added."""
-    sizes, old, seqnos, out = {}, [], [], []
-    head = recs[1] if len(recs) > 2 and len(recs[1]) == 40 else settings(0, 0, 5, 4, 0, [])
-    parts = {p: (0, 0, 0) for p, x in enumerate(struct.unpack('<8H', head[24:])) if x != NONE}
-    for one in recs:
-        kind, first = one[4:6], one == do(OPEN) and do(OPEN) not in out
-        if kind in ANCHORS and len(one) >= 56:
-            aid = int.from_bytes(one[6:10], 'little')
-            sizes[aid] = int.from_bytes(one[54:56], 'little')
-            if r.random() < 0.55:
-                one = aged(r, one)
-                old += [aid] * (one[50:54] != bytes(4))    # cached, since some are ours
-        elif kind == b'\x01\x01' and len(one) == 159:
-            seqnos.append(one[6:10])
-            one = ended(r, one, head, sizes, old) if old and r.random() < 0.6 else one
-        elif (kind == b'\x11\x01' or one in (do(READ), do(REFILL))) and r.random() < 0.6:
-            one = strictly(r, one, seqnos)
-        elif first:
-            out += old_anchors(r, recs, sizes, old)
-            if old and r.random() < 0.9:
-                more = put_range(r.choice([0, 1, 2, 2, 2, 3, 4]), (0, 0), (0, 0), (0, 0), 0, 0, parts)
-                out.append(ended(r, more, head, sizes, old))
-                seqnos.append(more[6:10])
-        out.append(one)
-        if first and r.random() < 0.9:
-            out.append(strictly(r, do(r.choice([READ, REFILL])), seqnos[-2:]))
-    return out
-
-
 def far(r, key, sizes):
     """The key, of some anchor if its id is none's, with an offset that 16 or 32 bits would cut to one within the
     anchor, or with the greatest of so many bits."""
@@ -1076,7 +983,7 @@ def with_far_offsets(r, recs):
     sizes, out, share = {}, [], r.choice([0, 0.3, 0.6])
     for one in recs:
         kind = one[4:6]
-        if kind in ANCHORS:
+        if kind in (b'\x04\x00', b'\x07\x01'):
             sizes[one[6:10]] = int.from_bytes(one[54:56], 'little')
         elif kind == b'\x01\x01' and sizes and r.random() < share:
             one = far_range(r, one, sizes)
@@ -1090,9 +997,8 @@ def session(seed, kind, far_offsets=True):
     """Far offsets are drawn last: without them, as in the replayed list, a session is as before there were any."""
     r = random.Random(seed)
     some = {'beyond': beyond, 'range': one_range, 'reader': readers}
-    changed = {'infos': with_infos, 'strict': with_strict}
-    if kind in changed or kind in some:
-        recs = changed[kind](r, r.choice(list(some.values()))(r)) if kind in changed else some[kind](r)
+    if kind == 'infos' or kind in some:
+        recs = with_infos(r, r.choice(list(some.values()))(r)) if kind == 'infos' else some[kind](r)
         return flat(with_far_offsets(r, recs) if far_offsets else recs)
     if kind == 'mixed':
         x = r.random()
@@ -1107,7 +1013,7 @@ def main():
     p.add_argument('--seed', type=int, default=1)
     p.add_argument('--count', type=int)
     p.add_argument('--dir')
-    p.add_argument('--kind', choices='plain malformed caps mixed beyond range reader infos strict'.split(), default='mixed')
+    p.add_argument('--kind', choices=['plain', 'malformed', 'caps', 'mixed', 'beyond', 'range', 'reader', 'infos'], default='mixed')
     p.add_argument('--sample', action='store_true')
     p.add_argument('--named')
     p.add_argument('--list', action='store_true')

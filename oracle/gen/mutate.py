@@ -38,8 +38,8 @@ CHANGES = [
     ('a range without buffers is full', "default=1024", "default=0"),
     ('a range without buffers by the largest limit', "default=1024", "default=max(self.limits.values(), default=1024)"),
     ('free told where no range was read', "last_seen, seen, free = None, False, None", "last_seen, seen, free = None, False, 1024"),
-    ('free of the first range read', "last_seen, free = self.one_range(s, s != self.seqno, strict)\n",
-     "last_seen, got = self.one_range(s, s != self.seqno, strict)\n                free = got if free is None else free\n"),
+    ('free of the first range read', "last_seen, free = self.one_range(s, s != self.seqno)\n",
+     "last_seen, got = self.one_range(s, s != self.seqno)\n                free = got if free is None else free\n"),
     ('free forgotten at a skipped range', "                    every = False\n                    continue\n                last_seen",
      "                    every, free = False, None\n                    continue\n                last_seen"),
     ('free forgotten at a fully read range', "                if r['full']:\n                    continue\n",
@@ -74,15 +74,15 @@ CHANGES = [
     ('refill skip counts as read', "                    every = False\n                    continue\n                last_seen", "                    continue\n                last_seen"),
     ('skip by at most', "x[1] < (r['parts'][p][1]", "x[1] <= (r['parts'][p][1]"),
     ('skip if any', "s == self.seqno or all(", "s == self.seqno or any("),
-    ('own read to saved end', "self.one_range(s, s != self.seqno, strict)", "self.one_range(s, True, strict)"),
-    ('others read to the end', "self.one_range(s, s != self.seqno, strict)", "self.one_range(s, False, strict)"),
+    ('own read to saved end', "self.one_range(s, s != self.seqno)", "self.one_range(s, True)"),
+    ('others read to the end', "self.one_range(s, s != self.seqno)", "self.one_range(s, False)"),
     ('full but fully read ends the call', "                    every = False\n                    if free == 0:\n                        queue = None\n                        break",
      "                    every = False\n                if free == 0:\n                    every = every and r['full']\n                    break"),
     ('waiting ignored', "and not self.waiting", ""),
     ('limit ignored', "and len(self.ranges) < limit", ""),
     ('limit as it stands', "limit = self.open_limit if self.doc_limit else max(self.open_limit, 2)", "limit = self.open_limit"),
     ('new range from the saved position', "self.ranges[last]['to'] if self.ranges", "self.ranges[last]['pos'] if self.ranges"),
-    ('last chain time from any range', "last_seen, free = self.one_range(s, s != self.seqno, strict)\n", "got, free = self.one_range(s, s != self.seqno, strict)\n                last_seen = last_seen if got is None else got\n"),
+    ('last chain time from any range', "last_seen, free = self.one_range(s, s != self.seqno)\n", "got, free = self.one_range(s, s != self.seqno)\n                last_seen = last_seen if got is None else got\n"),
     ('all-read mark forgotten', "            self.all_read = True\n            break", "            break"),
 ]
 # an offset of 64 bits in fewer (ticket 4 of document 02)
@@ -105,84 +105,6 @@ NARROW = [
      "> (self.parts[p][0][0], (self.parts[p][0][1] + 2**(BITS - 1)) % 2**BITS - 2**(BITS - 1)):"),
     ('"to" raised by BITS bits', "if r['pos'] > r['to']:", "if r['pos'] > (r['to'][0], r['to'][1] % 2**BITS):"),
 ]
-# the strict read (ticket 6 of document 02)
-ASKED = "if strict and previous and reached():"
-STAYS = "    # it stays\n                    r['full'] = 1\n"
-BELOW = "            if a['id'] < pos[0]:\n"
-EXPIRED = "            if max(r['ct'] - a['ct'], 0) > self.timeout * 1000:\n"
-MODE = "s != self.seqno, strict)"
-
-
-def asked(what):
-    """Another reason to stay."""
-    return ASKED, "if strict and previous and (%s):" % what
-
-
-def doing(what):
-    """More is done where one stays."""
-    return STAYS, STAYS.replace('\n', '\n                    %s\n' % what, 1)
-
-
-def ended(when):
-    """A read that ends at an anchor, in the lines before another test."""
-    then = "                last, r['full'] = a['ct'], 1\n                break\n"
-    return "            if strict and previous and %s:\n" % when + then
-
-
-CHANGES += [
-    ('strict: no anchor stays', ASKED, "if False:"),
-    ('strict: also to the end', ASKED, "if strict and reached():"),
-    ('strict: by an id at least that of the end', *asked("a['id'] >= end[0]")),
-    ('strict: by an id above alone', *asked("a['id'] > end[0]")),
-    ('strict: by the equal key alone', *asked("(a['id'], off) == end")),
-    ('strict: also with the offset above', *asked("reached() or a['id'] == end[0] and off > end[1]")),
-    ('strict: also with the offset below', *asked("reached() or a['id'] == end[0] and off < end[1]")),
-    ('strict: only if something is left of it', *asked("reached() and off < len(a['msgs'])")),
-    ('strict: not with a full buffer', *asked("reached() and not self.full(r)")),
-    ('strict: age by settings, not by range', *asked("reached() and self.next_ct - a['ct'] > self.timeout * 1000")),
-    # the same: where "to" was raised, it was to an anchor before, and the end lies below
-    ('SAME strict: by the raised "to"', *asked("a['id'] > r['to'][0] or (a['id'], off) == r['to']")),
-    ('strict: decided before step 2', BELOW,
-     ended("a['id'] > end[0] and r['ct'] - a['ct'] > self.timeout * 1000") + BELOW),
-    ('strict: an unexpired one stays too', EXPIRED, ended("reached()") + EXPIRED),
-    ('strict: expiry at "at least"', EXPIRED, EXPIRED.replace("1000:", "1000 - (strict and previous):")),
-    ('strict: counted where it stays',
-     *doing("[self.count(self.partition(m), 1) for m in a['msgs'][off:] if self.ours(m)]")),
-    ('strict: popped where it stays', *doing("self.cache.pop()")),
-    ('strict: its history goes',
-     *doing("keep = list(self.cache.cache); self.cache.pop(); self.cache.cache, self.cache.pending = keep, True")),
-    ('strict: pending unset', *doing("self.cache.pending = False")),
-    ('strict: position and "to" moved to it', *doing("moved()")),
-    ('strict: position moved to it', *doing("r['pos'] = (a['id'], off)")),
-    ('strict: position moved to "to"', *doing("r['pos'] = r['to']")),
-    ('strict: "to" raised to it', *doing("r['to'] = max(r['to'], (a['id'], off))")),
-    ('strict: no last chain time', *doing("last = None")),
-    ('strict: last chain time of the one before', "            last = a['ct']\n",
-     "            before, last = last, a['ct']\n", *doing("last = before")),
-    ('strict: last chain time of the last one', *doing("last = self.cache.cache[-1]['ct']")),
-    ('strict: not fully read', STAYS, "\n"),
-    ('strict: not fully read with a full buffer', STAYS,
-     STAYS.replace("= 1", "= r['full'] or int(not self.full(r))")),
-    ('strict: also the present read of one range', "mode == 1, kind == 0x130)", "mode == 1, True)"),
-    ('strict: also the present read of all', "self.read(d == 4, False)", "self.read(d == 4, True)"),
-    ('strict: own range too in Continue', MODE, "strict or " + MODE),
-    ('strict: own range read in Refill', "if refill and s ==", "if refill and not strict and s =="),
-    ('strict: not in Continue', MODE, MODE.replace("strict", "strict and refill")),
-    ('strict: not in Refill', MODE, MODE.replace("strict", "strict and not refill")),
-    ('strict: in the first range alone', MODE, MODE.replace("strict", "strict and not seen")),
-    ('strict: no range appended', "if not refill and not self.waiting", "if not (refill or strict or self.waiting)"),
-    ('strict: last chain time not kept', "if seen and last_seen is not None:",
-     "if seen and last_seen is not None and not strict:"),
-]
-NARROW += [
-    ('strict: saved end cut to BITS bits', *asked("a['id'] > end[0] or (a['id'], off) == (end[0], end[1] % 2**BITS)")),
-    ('strict: position cut to BITS bits', *asked("a['id'] > end[0] or (a['id'], off % 2**BITS) == end")),
-    ('strict: both compared by BITS bits',
-     *asked("a['id'] > end[0] or a['id'] == end[0] and (off - end[1]) % 2**BITS == 0")),
-    ('strict: both held to BITS bits',
-     *asked("a['id'] > end[0] or a['id'] == end[0] and min(off, 2**BITS - 1) == min(end[1], 2**BITS - 1)")),
-    ('strict: not past BITS bits', *asked("reached() and off < 2**BITS")),
-]
 CHANGES += [tuple(x.replace('BITS', str(bits)) for x in change) for bits in (16, 32) for change in NARROW]
 
 
@@ -191,13 +113,6 @@ def cases(dirs, beyond, many):
         for f in sorted(glob.glob(os.path.join(d, '*.bin')))[:many]:
             with open(f, 'rb') as data, open(f + '.out') as out:
                 yield beyond, data.read(), out.read()
-
-
-def changed(text, name, pairs):
-    for old, new in zip(pairs[::2], pairs[1::2]):
-        assert old in text, name
-        text = text.replace(old, new, 1)
-    return text
 
 
 def main():
@@ -211,9 +126,10 @@ def main():
         text = f.read()
     sessions = list(cases(args.plain, False, args.many)) + list(cases(args.beyond, True, args.many))
     wrong = 0
-    for name, *pairs in CHANGES:
+    for name, old, new in CHANGES:
+        assert old in text, name
         space = {'__name__': 'changed'}
-        exec(compile(changed(text, name, pairs), 'changed', 'exec'), space)
+        exec(compile(text.replace(old, new, 1), 'changed', 'exec'), space)
         seen = [0, 0]
         for beyond, data, out in sessions:
             try:

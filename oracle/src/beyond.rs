@@ -10,11 +10,12 @@ use tycho_network::PeerId;
 
 use crate::collator::anchors_cache::hook::{self, View};
 use crate::collator::anchors_cache::{AnchorInfo, AnchorsCacheTransaction};
-use crate::collator::messages_reader::externals_reader::hook::{Counts, Kept, RangeRecord};
+use crate::collator::messages_reader::externals_reader::hook::{Counts, RangeRecord};
 use crate::questions::{
     AREA, MAX_HISTORY, MAX_LIMIT, MAX_MESSAGES_IN_ANCHOR, MAX_RANGES, Number, has_place,
 };
 use crate::records::{Fields, anchor, anchor_well_made};
+use crate::refusals::try_read;
 use crate::session::{Session, Stop};
 
 /// The original's functions by the number that a record 0113 gives.
@@ -64,22 +65,22 @@ pub fn well_made(kind: u16, p: &[u8]) -> bool {
         0x107 => anchor_well_made(p),
         // bytes of the message area lent to the following calls: 4, at most 33,792
         0x108 => p.len() == 4 && Fields(p).u32() as usize <= AREA,
-        // trim, last_imported_anchor_info_at_ct: chain time 8
-        0x110 | 0x114 => p.len() == 8,
-        // one range's read, present or strict: seqno 4, mode 1 (0 ToTheEnd, 1 ToPreviuosReadTo)
-        0x111 | 0x130 => p.len() == 5 && p[4] <= 1,
+        // trim: chain time 8
+        0x110 => p.len() == 8,
+        // one range's read: seqno 4, mode 1 (0 ToTheEnd, 1 ToPreviuosReadTo)
+        0x111 => p.len() == 5 && p[4] <= 1,
         // the host took: seqno 4, partition 1, number 4
         0x112 => p.len() == 9 && p[4] <= 7,
         // function: which 1, partition 1, flag 1
         0x113 => p.len() == 3 && (1..=22).contains(&p[0]) && p[1] <= 7 && p[2] <= 1,
+        // last_imported_anchor_info_at_ct: chain time 8
+        0x114 => p.len() == 8,
         // check_has_pending_externals_in_range: key 12
         0x115 => p.len() == 12,
         // `new` once more
         0x116 => p.is_empty(),
         // `add_imported_anchor_info`: the payload of 0106
         0x117 => p.len() == 52,
-        // the strict read of all ranges: mode 1 (0 Continue, 1 Refill)
-        0x131 => p.len() == 1 && p[0] <= 1,
         _ => false,
     }
 }
@@ -127,7 +128,7 @@ impl Session<'_> {
             0x107 => return self.put_cached(payload, view),
             0x108 => self.area = f.u32() as usize,
             0x110 => self.trim(f.u64(), view),
-            0x111 => self.one(f.u32(), f.u8() == 1, false, view),
+            0x111 => self.one(f.u32(), f.u8() == 1, view),
             0x112 => self.took(f.u32(), f.u8().into(), f.u32() as usize),
             0x113 => self.function(&view, f.u8(), f.u8().into(), f.u8() == 1),
             0x114 => self.at_ct(f.u64(), &view),
@@ -136,8 +137,6 @@ impl Session<'_> {
                 writeln!(self.out, "in_range {}", u8::from(yes)).unwrap();
             }
             0x117 => self.info(&mut f, view),
-            0x130 => self.one(f.u32(), f.u8() == 1, true, view),
-            0x131 => self.strict(f.u8() == 1, view),
             _ => {
                 let mut copy = view.cache().clone();
                 self.reader.renew(&mut AnchorsCacheTransaction::new(&mut copy));
@@ -221,7 +220,7 @@ impl Session<'_> {
     }
 
     /// One range's read, refusals as for a whole read.
-    fn one(&mut self, seqno: u32, to_previous: bool, strict: bool, view: View<'_, '_>) {
+    fn one(&mut self, seqno: u32, to_previous: bool, view: View<'_, '_>) {
         if self.area < AREA {
             return self.line("one", 1);
         }
@@ -230,30 +229,25 @@ impl Session<'_> {
             return self.line("one", 15);
         }
         let router = self.router();
-        let read = if strict { Kept::read_one_strict } else { Kept::read_one };
-        let tried = self.try_read(tx, |k, t| read(k, t, seqno, to_previous, &router));
-        self.line("one", tried.as_ref().err().copied().unwrap_or(0));
-        if tried.is_err() {
+        let mut copied_cache = hook::cache_of(tx).clone();
+        let mut copied_tx = hook::fork(tx, &mut copied_cache);
+        let mut copy = self.reader.copy();
+        let no = try_read(&mut copy, &mut copied_tx, &self.reader, self.places, |k, t| {
+            k.read_one(t, seqno, to_previous, &router).map(|_| ())
+        });
+        self.line("one", no);
+        if no != 0 {
             return;
         }
         let before = self.reader.copy();
         let (last, full, counts) =
-            read(&mut self.reader, tx, seqno, to_previous, &router).expect("the copy did it");
+            self.reader.read_one(tx, seqno, to_previous, &router).expect("the copy did it");
         let free = self.reader.free(seqno);
         assert_eq!(full, free == 0);
         let last = last.map_or("-".to_owned(), |c| c.to_string());
         writeln!(self.out, "answer {last} {free}").unwrap();
         self.counts(&counts);
         self.entries(self.reader.buffered_since(&before));
-    }
-
-    /// The strict read of all ranges, refusals as for do bytes 3 and 4.
-    fn strict(&mut self, refill: bool, view: View<'_, '_>) {
-        match view {
-            _ if self.area < AREA => self.line("read", 1),
-            View::Open(tx) => self.read(tx, refill, true),
-            View::Closed(_) => self.line("read", 9),
-        }
     }
 
     /// What document 01 asks where the original panics, or where only some states make it.

@@ -1,7 +1,6 @@
 //! A session of `extread` (document 01). The records and the questions are judged here;
 //! cache, transaction and reader are the original ones.
 
-use std::collections::BTreeMap;
 use std::fmt::Write as _;
 use std::io::{Read as _, Write as _};
 
@@ -11,7 +10,7 @@ use tycho_types::models::ShardIdent;
 
 use crate::collator::anchors_cache::hook::{self, View};
 use crate::collator::anchors_cache::{AnchorsCache, AnchorsCacheTransaction};
-use crate::collator::messages_reader::externals_reader::hook::{Counts, Entry, Kept, Settings};
+use crate::collator::messages_reader::externals_reader::hook::{Entry, Kept, Settings};
 use crate::internal_queue::types::router::PartitionRouter;
 use crate::questions::{
     AREA, MASTERCHAIN, MAX_LIMIT, MAX_OPEN_RANGES, MAX_ROUTES, Number, PREFIX_FULL, ask_add,
@@ -50,13 +49,6 @@ pub struct Opts {
 pub enum Stop {
     End,
     Bad(Number),
-}
-
-/// Reader and cache after a read, and its answer.
-pub type CameTo<R> = (String, String, R);
-
-fn came_to<R>(reader: &Kept, tx: &AnchorsCacheTransaction<'_>, answer: R) -> CameTo<R> {
-    (reader.dump(), hook::dump(hook::cache_of(tx)), answer)
 }
 
 impl Session<'_> {
@@ -140,7 +132,7 @@ impl Session<'_> {
     fn do_open(&mut self, d: u8, tx: &mut AnchorsCacheTransaction<'_>) {
         match d {
             1 => return self.line("open", 9),
-            3 | 4 => return self.read(tx, d == 4, false),
+            3 | 4 => return self.read(tx, d == 4),
             5 => tx.commit(),
             _ => tx.rollback(),
         }
@@ -173,59 +165,30 @@ impl Session<'_> {
         }
     }
 
-    /// A read on copies, which a refused one may leave half done: its number, and with 0 what it came to.
-    pub fn try_read<R>(
-        &self,
-        tx: &AnchorsCacheTransaction<'_>,
-        call: impl FnOnce(&mut Kept, &mut AnchorsCacheTransaction<'_>) -> anyhow::Result<R>,
-    ) -> Result<CameTo<R>, Number> {
-        let mut cache = hook::cache_of(tx).clone();
-        let mut fork = hook::fork(tx, &mut cache);
-        let mut copy = self.reader.copy();
-        let mut answer = None;
-        let no = try_read(&mut copy, &mut fork, &self.reader, self.places, |k, t| {
-            answer = Some(call(k, t)?);
-            Ok(())
-        });
-        match answer {
-            Some(answer) if no == 0 => Ok(came_to(&copy, &fork, answer)),
-            _ => Err(no),
-        }
-    }
-
-    /// The read of all ranges: the original `read_into_buffers`, to which the loop over single ranges is held. A strict
-    /// read is that loop itself.
-    pub fn read(&mut self, tx: &mut AnchorsCacheTransaction<'_>, refill: bool, strict: bool) {
+    /// The original `read_into_buffers`, first on copies, which a refused read may leave
+    /// half done.
+    fn read(&mut self, tx: &mut AnchorsCacheTransaction<'_>, refill: bool) {
         let router = self.router();
-        let by_ranges = |k: &mut Kept, t: &mut AnchorsCacheTransaction<'_>| {
-            k.read_by_ranges(t, refill, strict, &router)
-        };
-        let call = |k: &mut Kept, t: &mut AnchorsCacheTransaction<'_>| match strict {
-            true => by_ranges(k, t),
-            false => k.read(t, refill, &router),
-        };
-        let tried = self.try_read(tx, call);
-        if !strict {
-            assert_eq!(tried, self.try_read(tx, by_ranges));
-        }
-        self.line("read", tried.as_ref().err().copied().unwrap_or(0));
-        if tried.is_err() {
+        let mut copied_cache = hook::cache_of(tx).clone();
+        let mut copied_tx = hook::fork(tx, &mut copied_cache);
+        let mut copy = self.reader.copy();
+        let no = try_read(&mut copy, &mut copied_tx, &self.reader, self.places, |k, t| {
+            k.read(t, refill, &router).map(|_| ())
+        });
+        self.line("read", no);
+        if no != 0 {
             return;
         }
 
         let before = self.reader.copy();
-        let answer = call(&mut self.reader, tx).expect("the copy did it");
-        assert_eq!(tried, Ok(came_to(&self.reader, tx, answer.clone())));
-        let (counts, last_read) = answer;
+        let (counts, last_read) = self.reader.read(tx, refill, &router).expect("the copy did it");
         let entries = self.reader.buffered_since(&before);
+        assert_eq!(self.reader.dump(), copy.dump());
+        assert_eq!(hook::dump(hook::cache_of(tx)), hook::dump(hook::cache_of(&copied_tx)));
         let buffered: u64 = counts.values().map(|c| c.buffered).sum();
         assert_eq!(buffered, entries.len() as u64);
-        self.told(counts, last_read, entries);
-    }
 
-    /// The lines behind `read 0`.
-    fn told(&mut self, counts: BTreeMap<u16, Counts>, last: Option<u32>, entries: Vec<Entry>) {
-        if let Some(seqno) = last {
+        if let Some(seqno) = last_read {
             writeln!(self.out, "free {}", self.reader.free(seqno)).unwrap();
         }
         self.entries(entries);

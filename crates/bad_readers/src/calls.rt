@@ -5,7 +5,7 @@ use anchors_cache::FlagAnswer;
 use externals_reader::ReaderDone;
 use reader_rules::{ByPartitions, ExternalsReader};
 
-pub const CALLS: u8 = 32;
+pub const CALLS: u8 = 30;
 
 // Stands for the number of a call that was refused and yet changed or answered something.
 pub const CHANGED: u8 = 255;
@@ -130,8 +130,7 @@ pub fn number(c: Case, which: u8) -> u8 {
         1 => externals_reader::check_settings(state::limits(c), c.most),
         6 | 15 | 22 => number_of_list(reader, which),
         7 => number_of_next(reader),
-        8 | 9 => lent::number_of_read(c, reader, which == 9, false),
-        30 | 31 => lent::number_of_read(c, reader, which == 31, true),
+        8 | 9 => lent::number_of_read(c, reader, which == 9),
         11 | 12 | 13 | 14 | 16 | 17 | 18 | 19 | 20 | 21 => number_of_question(c, reader, which),
         _ => number_of_change(c, reader, which),
     }

@@ -66,7 +66,6 @@ fn read_lent(
     c: Case,
     reader: ExternalsReader,
     refill: bool,
-    strict: bool,
     out: &mut [u8],
 ) -> ReadIntoBuffers {
     let tables = [0u8; 14912];
@@ -81,19 +80,13 @@ fn read_lent(
         return unread(CHANGED, c, reader);
     }
     let part = &area[0..n];
-    externals_reader::read_into_buffers(&tables, part, t, &bytes[0..k], reader, mode, strict, out)
+    externals_reader::read_into_buffers(&tables, part, t, &bytes[0..k], reader, mode, out)
 }
 
-fn read(
-    c: Case,
-    reader: ExternalsReader,
-    refill: bool,
-    strict: bool,
-    out: &mut [u8; 60],
-) -> ReadIntoBuffers {
+fn read(c: Case, reader: ExternalsReader, refill: bool, out: &mut [u8; 60]) -> ReadIntoBuffers {
     let area = [0u8; 33792];
     let bytes = routes(c);
-    read_lent(&area, &bytes, c, reader, refill, strict, out)
+    read_lent(&area, &bytes, c, reader, refill, out)
 }
 
 fn is_untouched(out: &[u8; 60]) -> bool {
@@ -110,9 +103,9 @@ fn is_nothing(free: LastFree) -> bool {
 
 // A refused read answers reader and transaction as it was handed them, reports no free places, and leaves every byte of
 // the output.
-pub fn number_of_read(c: Case, reader: ExternalsReader, refill: bool, strict: bool) -> u8 {
+pub fn number_of_read(c: Case, reader: ExternalsReader, refill: bool) -> u8 {
     let mut out = [7u8; 60];
-    let r = read(c, reader, refill, strict, &mut out);
+    let r = read(c, reader, refill, &mut out);
     if r.number == 0 {
         return 0;
     }
@@ -152,7 +145,7 @@ fn print_line(name: &[u8], numbers: &[u64]) {
 // What a read leaves: its number, the mark, how many ranges there are, and whether the last is fully read.
 fn print_read(name: &[u8], c: Case, refill: bool) {
     let mut out = [7u8; 60];
-    let r = read(c, state::reader(c), refill, false, &mut out);
+    let r = read(c, state::reader(c), refill, &mut out);
     let reader = r.reader;
     let held = reader.reader_state;
     let last = std::num::wrapping_sub_usize(held.len, 1);

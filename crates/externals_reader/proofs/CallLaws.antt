@@ -47,8 +47,8 @@ effective_limit limits most z = go (ltb most 2)
     go true = omega arith
     go false = small
 
-module _ (tables area : List ℕ) (t : AnchorsCacheTransaction) (routes : List ℕ) (reader : ExternalsReader) (mode : GetNextMessageGroupMode) (strict : Bool) (out : List ℕ) (n : ℕ) (ne : n ≡ asked_of_read tables area t routes reader) where
-  pub call_refused : (n ≡ 0 → ⊥) → (q : ReadIntoBuffers) → q ≡ (unchanged n reader t []).answer → record { answer = q; out = out } ≡ read_all_call tables area t routes reader mode strict out
+module _ (tables area : List ℕ) (t : AnchorsCacheTransaction) (routes : List ℕ) (reader : ExternalsReader) (mode : GetNextMessageGroupMode) (out : List ℕ) (n : ℕ) (ne : n ≡ asked_of_read tables area t routes reader) where
+  pub call_refused : (n ≡ 0 → ⊥) → (q : ReadIntoBuffers) → q ≡ (unchanged n reader t []).answer → record { answer = q; out = out } ≡ read_all_call tables area t routes reader mode out
   unfolding read_all_call
   call_refused h q e = rw (sym ne, ne_eqb n 0 h, e)
 
@@ -63,11 +63,11 @@ module _ (tables area : List ℕ) (t : AnchorsCacheTransaction) (routes : List �
         let p = refusal_parts (length area) tables t (first_zero _ _ (first_zero _ _ (first_zero _ _ (first_zero _ _ (first_zero _ _ asked).1).1).1).1).0 in
         (p.history_within, p.tall)
 
-    pub call_idle : reader.all_ranges_fully_read ≡ true → (q : ReadIntoBuffers) → q ≡ (unchanged 0 reader t []).answer → record { answer = q; out = out } ≡ read_all_call tables area t routes reader mode strict out
+    pub call_idle : reader.all_ranges_fully_read ≡ true → (q : ReadIntoBuffers) → q ≡ (unchanged 0 reader t []).answer → record { answer = q; out = out } ≡ read_all_call tables area t routes reader mode out
     unfolding read_all_call
     call_idle m q e = rw (asked, e) (sym (pick_yes reader.all_ranges_fully_read _ _ m))
 
-    module _ (m : reader.all_ranges_fully_read ≡ false) (x : Fixed) (xe : x ≡ fixed_of reader mode strict (imported_in tables t.cache) (length out)) where
+    module _ (m : reader.all_ranges_fully_read ≡ false) (x : Fixed) (xe : x ≡ fixed_of reader mode (imported_in tables t.cache) (length out)) where
       pub call_start : length out < 2 ^ 64 → Start x (at_entry reader.reader_state) out
       unfolding asked_of_read settled_number
       call_start small =
@@ -84,13 +84,13 @@ module _ (tables area : List ℕ) (t : AnchorsCacheTransaction) (routes : List �
           })
 
       whole : Outcome RangesRead
-      whole = all_ranges_read tables area t routes reader mode strict (length out)
+      whole = all_ranges_read tables area t routes reader mode (length out)
 
       same : ranges_read (window_read tables area t routes x) x (at_entry reader.reader_state) ≡ whole
       unfolding whole all_ranges_read
       same = rw xe
 
-      answered : read_all_call tables area t routes reader mode strict out ≡ all_result tables area t reader whole out
+      answered : read_all_call tables area t routes reader mode out ≡ all_result tables area t reader whole out
       unfolding read_all_call whole
       answered = rw asked (pick_no reader.all_ranges_fully_read _ _ m)
 
@@ -98,13 +98,13 @@ module _ (tables area : List ℕ) (t : AnchorsCacheTransaction) (routes : List �
         first : d ≡ whole.value
         first = w.value ∙ ap (λ (s : Outcome RangesRead). s.value) same
 
-        pub call_stopped : (d.so_far.number ≡ 0 → ⊥) → (q : ReadIntoBuffers) → q ≡ (unchanged d.so_far.number reader t []).answer → record { answer = q; out = o } ≡ read_all_call tables area t routes reader mode strict out
+        pub call_stopped : (d.so_far.number ≡ 0 → ⊥) → (q : ReadIntoBuffers) → q ≡ (unchanged d.so_far.number reader t []).answer → record { answer = q; out = o } ≡ read_all_call tables area t routes reader mode out
         call_stopped h q e =
             rw (e, w.out)
             (sym (answered ∙ (ap (λ (v : RangesRead). pick (eqb v.so_far.number 0) (record { answer = read_answered tables area t reader v; out = sets out 0 whole.entries }) (unchanged v.so_far.number reader t out)) (sym first) ∙ pick_no (eqb d.so_far.number 0) _ _ (ne_eqb d.so_far.number 0 h))))
 
         pub call_done : d.so_far.number ≡ 0 → (r : RangesRead) (o' : List ℕ) → Wrote true 0 o o' r (ranges_read (window_read tables area t routes x) x (at_entry reader.reader_state)) → (q : ReadIntoBuffers) → q ≡ read_answered tables area t reader r
-            → record { answer = q; out = o' } ≡ read_all_call tables area t routes reader mode strict out
+            → record { answer = q; out = o' } ≡ read_all_call tables area t routes reader mode out
         call_done z r o' v q e =
             let f : r ≡ whole.value = v.value ∙ ap (λ (s : Outcome RangesRead). s.value) same in
             let b : o' ≡ sets out 0 whole.entries = v.out ∙ rw w.out (ap (λ (s : Outcome RangesRead). sets out 0 s.entries) same) in
@@ -112,7 +112,7 @@ module _ (tables area : List ℕ) (t : AnchorsCacheTransaction) (routes : List �
             (sym (answered ∙ (ap (λ (v : RangesRead). pick (eqb v.so_far.number 0) (record { answer = read_answered tables area t reader v; out = sets out 0 whole.entries }) (unchanged v.so_far.number reader t out)) (sym f) ∙ pick_yes (eqb r.so_far.number 0) _ _ (eq-eqb r.so_far.number 0 (ap (λ (v : RangesRead). v.so_far.number) (f ∙ sym first) ∙ z)))))
 
         -- where the first run used no byte, it is the whole read
-        pub call_silent : length out < 2 ^ 64 → d.so_far.number ≡ 0 → d.so_far.used ≡ 0 → (q : ReadIntoBuffers) → q ≡ read_answered tables area t reader d → record { answer = q; out = o } ≡ read_all_call tables area t routes reader mode strict out
+        pub call_silent : length out < 2 ^ 64 → d.so_far.number ≡ 0 → d.so_far.used ≡ 0 → (q : ReadIntoBuffers) → q ≡ read_answered tables area t reader d → record { answer = q; out = o } ≡ read_all_call tables area t routes reader mode out
         call_silent small z u = call_done z d o (nothing_used out o d _ w (all_told (window_read tables area t routes x) (window_fits tables area t routes x) x false (at_entry reader.reader_state) out (call_start small)) u)
 
         -- the first run wrote nothing, so the second starts as the first did

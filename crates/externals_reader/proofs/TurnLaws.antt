@@ -17,7 +17,6 @@ use Rattle.anchors_cache.specs.declared.AnchorsCacheTransaction.{AnchorsCacheTra
 use Rattle.anchors_cache.specs.declared.Done.{Done}
 use Rattle.anchors_cache.specs.Calls.{pops_call}
 use Rattle.range_reader.proofs.LocalLaws.{set_same}
-use Rattle.range_rules.proofs.Strict.{or_false}
 use Rattle.range_rules.specs.declared.ExternalsRangeReaderState.{ExternalsRangeReaderState}
 use Rattle.range_rules.specs.declared.ReadCounts.{ReadCounts}
 use Rattle.range_reader.specs.declared.ReadExternals.{ReadExternals}
@@ -332,6 +331,10 @@ turns_last : (one : OneRange) (x : Fixed) (left i : ℕ) (s : Outcome RangesRead
 unfolding turns
 turns_last one x zero i s e = refl
 turns_last one x (suc n) i s e = pick_yes (is_over s.value) _ _ (rw (ne_eqb (suc n) 0 (λ q. omega (arith, q))) at e)
+
+or_false : (a b : Bool) → (a || b) ≡ false → (a ≡ false) × (b ≡ false)
+or_false true b e = absurd (omega (arith, ap (λ (c : Bool). pick {A = ℕ} c 1 0) e))
+or_false false b e = (refl, e)
 
 more_left : (left : ℕ) → eqb left 0 ≡ false → 0 < left
 more_left zero e = absurd (eqb-false 0 0 e refl)

@@ -120,9 +120,9 @@ window_read tables area t routes x pops mode range room =
 abbrev pub imported_in : List ℕ → AnchorsCache → Imported
 imported_in tables c = end_of (info_found (last_of (history_of tables c)))
 
-unfoldable pub all_ranges_read : List ℕ → List ℕ → AnchorsCacheTransaction → List ℕ → ExternalsReader → GetNextMessageGroupMode → Bool → ℕ → Outcome RangesRead
-all_ranges_read tables area t routes r mode strict room =
-    let x = fixed_of r mode strict (imported_in tables t.cache) room in
+unfoldable pub all_ranges_read : List ℕ → List ℕ → AnchorsCacheTransaction → List ℕ → ExternalsReader → GetNextMessageGroupMode → ℕ → Outcome RangesRead
+all_ranges_read tables area t routes r mode room =
+    let x = fixed_of r mode (imported_in tables t.cache) room in
     ranges_read (window_read tables area t routes x) x (at_entry r.reader_state)
 
 abbrev pub reader_after : ExternalsReader → RangesRead → ExternalsReader
@@ -157,9 +157,9 @@ all_result tables area t r s out =
     (unchanged q.so_far.number r t out)
 
 -- "Nothing is done once "all ranges read" is set", and the questions are asked before
-unfoldable pub read_all_call : List ℕ → List ℕ → AnchorsCacheTransaction → List ℕ → ExternalsReader → GetNextMessageGroupMode → Bool → List ℕ → ReadAllResult
-read_all_call tables area t routes r mode strict out =
+unfoldable pub read_all_call : List ℕ → List ℕ → AnchorsCacheTransaction → List ℕ → ExternalsReader → GetNextMessageGroupMode → List ℕ → ReadAllResult
+read_all_call tables area t routes r mode out =
     let n = asked_of_read tables area t routes r in
     pick (eqb n 0)
-    (pick r.all_ranges_fully_read (unchanged 0 r t out) (all_result tables area t r (all_ranges_read tables area t routes r mode strict (length out)) out))
+    (pick r.all_ranges_fully_read (unchanged 0 r t out) (all_result tables area t r (all_ranges_read tables area t routes r mode (length out)) out))
     (unchanged n r t out)

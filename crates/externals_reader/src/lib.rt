@@ -249,11 +249,10 @@ pub fn create_next_externals_range_state(reader: ExternalsReader) -> NextRange
 fn fixed_at_entry(
     reader: ExternalsReader,
     mode: GetNextMessageGroupMode,
-    strict: bool,
     imported: Imported,
     room: usize,
 ) -> Fixed
-    ensures { (result ≡ fixed_of reader mode strict imported room) × (room < 2 ^ 64) }
+    ensures { (result ≡ fixed_of reader mode imported room) × (room < 2 ^ 64) }
 {
     let state = reader.reader_state;
     let shard = reader.for_shard_id;
@@ -269,7 +268,6 @@ fn fixed_at_entry(
         params: params,
         limits: limits,
         mode: mode,
-        strict: strict,
         by_partitions: parts,
         processed: processed,
         imported: imported,
@@ -348,9 +346,9 @@ fn answer_of(
     }
 }
 
-// The read of all ranges; a `strict` one leaves an expired anchor at which the range's saved end is reached. It runs
-// twice: the first run writes nothing and decides the number, so that a refusal in a later range leaves the entries of
-// the first unwritten. Where that one used no byte there is nothing to write, and it is the answer.
+// The read of all ranges. It runs twice: the first run writes nothing and decides the number, so that a refusal in a
+// later range leaves the entries of the first unwritten. Where that one used no byte there is nothing to write, and it
+// is the answer.
 pub fn read_into_buffers(
     tables: &[u8],
     area: &[u8],
@@ -358,10 +356,9 @@ pub fn read_into_buffers(
     routes: &[u8],
     reader: ExternalsReader,
     mode: GetNextMessageGroupMode,
-    strict: bool,
     out: &mut [u8],
 ) -> ReadIntoBuffers
-    ensures { record { answer = result; out = out.new } ≡ read_all_call tables.now area.now t routes.now reader mode strict out.old }
+    ensures { record { answer = result; out = out.new } ≡ read_all_call tables.now area.now t routes.now reader mode out.old }
 {
     let asked = questions::asked_of_read(tables, area, t, routes, reader);
     if asked != 0 {
@@ -372,7 +369,7 @@ pub fn read_into_buffers(
     }
     let cache = t.cache;
     let imported = ranges::last_imported(tables, cache);
-    let x = fixed_at_entry(reader, mode, strict, imported, out.len());
+    let x = fixed_at_entry(reader, mode, imported, out.len());
     let state = reader.reader_state;
     let ranges = state.ranges;
     let len = state.len;

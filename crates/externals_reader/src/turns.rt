@@ -1,7 +1,7 @@
 // The ranges' turns in a read of all: which ranges are read, how, and what becomes of the rest.
 ghost use Rattle.std.specs.Prelude.{ℕ, ◌+◌, ◌<◌, ◌^◌, ◌≡◌, not, ◌&&◌, eqb, get_or};
 ghost use Rattle.range_reader.specs.Ready.{Wrote};
-ghost use Rattle.reader_rules.specs.Rules.{skip_offset_of, reached, before_skip_offsets, waits, is_skipped, previous_mode, mode_for, settled, sums, counts_added, ranges_read, time_saved, nothing_read, read_of};
+ghost use Rattle.reader_rules.specs.Rules.{skip_offset_of, reached, before_skip_offsets, waits, is_skipped, mode_for, settled, sums, counts_added, ranges_read, time_saved, nothing_read, read_of};
 ghost use Rattle.externals_reader.specs.Calls.{told, window_read};
 ghost use Rattle.externals_reader.specs.Locals.{turn_done, turns_over};
 ghost use Rattle.externals_reader.specs.Ready.{Addable, TurnReady, RangeWrote, TurnRoom, Start, TurnWrote};
@@ -137,15 +137,6 @@ fn is_skipped(x: Fixed, range: ExternalsRangeReaderState) -> bool
     before_skip_offsets(parts, of_range)
 }
 
-fn previous_mode(strict: bool) -> ReadNextExternalsMode
-    ensures { result ≡ previous_mode strict }
-{
-    if strict {
-        return ReadNextExternalsMode::ToPreviuosReadToStrict;
-    }
-    ReadNextExternalsMode::ToPreviuosReadTo
-}
-
 // The block's own range is read to the end, others to where they were read before.
 fn mode_for(x: Fixed, seqno: u32) -> ReadNextExternalsMode
     ensures { result ≡ mode_for x seqno }
@@ -153,7 +144,7 @@ fn mode_for(x: Fixed, seqno: u32) -> ReadNextExternalsMode
     if seqno == x.block_seqno {
         return ReadNextExternalsMode::ToTheEnd;
     }
-    previous_mode(x.strict)
+    ReadNextExternalsMode::ToPreviuosReadTo
 }
 
 // The block's own range, fully read: position and "to" become the end of the last imported anchor.

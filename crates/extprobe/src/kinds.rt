@@ -32,10 +32,6 @@ pub const NEW: u16 = 278;
 
 pub const INFO: u16 = 279;
 
-pub const STRICT_ONE: u16 = 304;
-
-pub const STRICT_READ: u16 = 305;
-
 // How long the payload of a kind is; a cached anchor's has 33 bytes for each message.
 // No payload is as long as that of an unknown kind.
 fn length_of(kind: u16, p: &[u8]) -> usize {
@@ -49,8 +45,7 @@ fn length_of(kind: u16, p: &[u8]) -> usize {
         LIMITS => 16,
         HISTORY | INFO => 52,
         TRIM | INFO_AT => 8,
-        ONE | STRICT_ONE => 5,
-        STRICT_READ => 1,
+        ONE => 5,
         TOOK => 9,
         FUNCTION => 3,
         NEW => 0,
@@ -85,8 +80,7 @@ fn has_fields(kind: u16, p: &[u8]) -> bool {
         PARTITION => both_within(p, 0, 7, 1, 1),
         MARKS => both_within(p, 0, 1, 1, 1),
         AREA => rows::u32_at(p, 0) <= 33792,
-        ONE | STRICT_ONE => records::is_byte_within(p, 4, 0, 1),
-        STRICT_READ => records::is_byte_within(p, 0, 0, 1),
+        ONE => records::is_byte_within(p, 4, 0, 1),
         TOOK => records::is_byte_within(p, 4, 0, 7),
         FUNCTION => {
             if !records::is_byte_within(p, 0, 1, 22) {

@@ -137,7 +137,6 @@ fn read_one(
     text: &mut [u8; 131072],
     run: Run,
     p: &[u8],
-    strict: bool,
 ) -> Run {
     let session = run.session;
     let lent = state::lent(run);
@@ -145,7 +144,7 @@ fn read_one(
     after_read(
         run,
         read::one(
-            text, session.at, tables, area, routes, lent, t, run.reader, p, strict,
+            text, session.at, tables, area, routes, lent, t, run.reader, p,
         ),
     )
 }
@@ -157,7 +156,6 @@ fn read_all(
     text: &mut [u8; 131072],
     run: Run,
     mode: u8,
-    strict: bool,
 ) -> Run {
     let session = run.session;
     let lent = state::lent(run);
@@ -165,7 +163,7 @@ fn read_all(
     after_read(
         run,
         read::all(
-            text, session.at, tables, area, routes, lent, t, run.reader, mode, strict,
+            text, session.at, tables, area, routes, lent, t, run.reader, mode,
         ),
     )
 }
@@ -191,12 +189,7 @@ fn called(
     let t = session.transaction;
     match kind {
         kinds::TRIM => trim(tables, area, text, run, rows::u64_at(p, 0)),
-        kinds::ONE => read_one(tables, area, routes, text, run, p, false),
-        kinds::STRICT_ONE => read_one(tables, area, routes, text, run, p, true),
-        kinds::STRICT_READ => {
-            let mode = rows::byte_at(p, 0);
-            read_all(tables, area, routes, text, run, mode, true)
-        }
+        kinds::ONE => read_one(tables, area, routes, text, run, p),
         kinds::FUNCTION => function(tables, text, run, p),
         kinds::INFO_AT => {
             let ct = rows::u64_at(p, 0);
@@ -238,13 +231,9 @@ fn beyond(
             run,
             probe_cache::given::append_anchor(tables, area, session.transaction, p),
         ),
-        kinds::TRIM
-        | kinds::ONE
-        | kinds::STRICT_ONE
-        | kinds::STRICT_READ
-        | kinds::FUNCTION
-        | kinds::INFO_AT
-        | kinds::IN_RANGE => called(tables, area, routes, text, run, kind, p),
+        kinds::TRIM | kinds::ONE | kinds::FUNCTION | kinds::INFO_AT | kinds::IN_RANGE => {
+            called(tables, area, routes, text, run, kind, p)
+        }
         _ => reader_record(text, run, kind, p),
     }
 }
@@ -308,7 +297,7 @@ fn handled(
     }
     let mode = read_mode(run.session, record);
     if mode < 2 {
-        return read_all(tables, area, routes, text, numbered(run), mode, false);
+        return read_all(tables, area, routes, text, numbered(run), mode);
     }
     let kind = rows::u16_at(record, 0);
     if kind < 256 {

@@ -66,7 +66,7 @@ pub data Change : Type 0 where
   ext_new_reader : Change
   -- the eleven that take the reader alone: from `ext_set_buffer_limits_by_partition` to `ext_messages_taken`
   on_the_reader : (ExternalsReader → ReaderDone) → Change
-  ext_read_into_buffers : List ℕ → Bool → Bool → Change
+  ext_read_into_buffers : List ℕ → Bool → Change
   ext_read_externals_into_buffers : List ℕ → RangeSettings → Change
 
 abbrev with_transaction_lem : Lent → ℕ → AnchorsCacheTransaction → Left
@@ -104,7 +104,7 @@ called (ext_add anchor ours messages) l = with_added l (add_shown l.tables l.are
 called (ext_add_imported_anchor_info e) l = with_added l (entry_shown l.tables l.area e l.transaction)
 called ext_new_reader l = with_reader l (new_shown l.reader)
 called (on_the_reader call) l = with_reader l (on_reader call l.reader)
-called (ext_read_into_buffers routes refill strict) l = with_all_read l (read_all l.out l.tables l.area routes refill strict (record { transaction = l.transaction; reader = l.reader }))
+called (ext_read_into_buffers routes refill) l = with_all_read l (read_all l.out l.tables l.area routes refill (record { transaction = l.transaction; reader = l.reader }))
 called (ext_read_externals_into_buffers routes settings) l =
     with_range_read l (read_range l.out l.tables l.area routes settings (record { transaction = l.transaction; range = l.range }))
 
@@ -145,14 +145,14 @@ module _ (l : Lent) where
   reader_leaves d h = ap (λ (r : Reader). (with_reader l (record { number = 0; reader = r })).lent) (a_refused_call_leaves_the_host's_reader l.reader d.number d.reader h)
 
   module _ (routes : List ℕ) where
-    all_leaves : (r : ExternalsReader) (mode : GetNextMessageGroupMode) (strict : Bool) → let q = read_all_call l.tables l.area l.transaction routes r mode strict l.out in
+    all_leaves : (r : ExternalsReader) (mode : GetNextMessageGroupMode) → let q = read_all_call l.tables l.area l.transaction routes r mode l.out in
         (q.answer.number ≡ 0 → ⊥) → (with_all_read l q).lent ≡ l
     unfolding read_all_call
-    all_leaves r mode strict =
+    all_leaves r mode =
         let P : ReadAllResult → Type 0 = λ q. (q.answer.number ≡ 0 → ⊥) → (with_all_read l q).lent ≡ l in
         let no : (n : ℕ) → P (unchanged n r l.transaction l.out) = λ n h. ap (λ (x : Reader). (with_reader l (record { number = 0; reader = x })).lent) (a_refused_call_leaves_the_host's_reader l.reader n r h) in
         pick_both P (eqb (asked_of_read l.tables l.area l.transaction routes r) 0) _ _
-        (pick_both P r.all_ranges_fully_read _ _ (no 0) (pick_both P (eqb (all_ranges_read l.tables l.area l.transaction routes r mode strict (length l.out)).value.so_far.number 0) _ _ (λ h. absurd (h refl)) (no _)))
+        (pick_both P r.all_ranges_fully_read _ _ (no 0) (pick_both P (eqb (all_ranges_read l.tables l.area l.transaction routes r mode (length l.out)).value.so_far.number 0) _ _ (λ h. absurd (h refl)) (no _)))
         (no _)
 
     answer_leaves : (n : ℕ) (s : Outcome RangeRead) → let q = read_answer n l.tables l.transaction l.range s l.out in
@@ -165,7 +165,7 @@ module _ (l : Lent) where
         (q.answer.number ≡ 0 → ⊥) → (with_range_read l q).lent ≡ l
     unfolding read_range read_call
     range_leaves s =
-        let steps = range_read l.tables l.area l.transaction s.shard routes s.limits s.processed s.timeout (range_mode s.to_previous s.strict) l.range (length l.out) in
+        let steps = range_read l.tables l.area l.transaction s.shard routes s.limits s.processed s.timeout (range_mode s.to_previous) l.range (length l.out) in
         answer_leaves (first_no (asked_number l.tables l.area l.transaction s.shard routes s.limits l.range ∷ steps.value.walk.number ∷ [])) steps
 
 -- ---- all calls
@@ -197,7 +197,7 @@ a_call_with_a_number_other_than_0_leaves_all_that_it_was_lent (ext_add_imported_
     entry_leaves l n (with_cache l.transaction (in_history c)) (history_added (info_row (info_with e.info e.author)) c l.tables) h
 a_call_with_a_number_other_than_0_leaves_all_that_it_was_lent ext_new_reader l h = reader_leaves l _ h
 a_call_with_a_number_other_than_0_leaves_all_that_it_was_lent (on_the_reader call) l h = reader_leaves l (call (reader_of l.reader)) h
-a_call_with_a_number_other_than_0_leaves_all_that_it_was_lent (ext_read_into_buffers routes refill strict) l h = all_leaves l routes (reader_of l.reader) (group_mode refill) strict h
+a_call_with_a_number_other_than_0_leaves_all_that_it_was_lent (ext_read_into_buffers routes refill) l h = all_leaves l routes (reader_of l.reader) (group_mode refill) h
 a_call_with_a_number_other_than_0_leaves_all_that_it_was_lent (ext_read_externals_into_buffers routes settings) l h = range_leaves l routes settings h
 
 -- ---- free numbers of a done call

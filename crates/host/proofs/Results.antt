@@ -167,10 +167,10 @@ entry_follows s z t r e = (ap (λ (d : Done). d.number) e.0, ap (λ (d : Done). 
 
 -- ---- the reads: the output, which changes, the tables, the message area and the routes, and the mode or the settings
 abbrev pub reading_all : List (Param 4)
-reading_all = lent_mut 4 0 tt ∷ lent_bytes 4 1 tt ∷ lent_bytes 4 2 tt ∷ lent_bytes 4 3 tt ∷ flag 4 ∷ flag 4 ∷ []
+reading_all = lent_mut 4 0 tt ∷ lent_bytes 4 1 tt ∷ lent_bytes 4 2 tt ∷ lent_bytes 4 3 tt ∷ flag 4 ∷ []
 
 abbrev reads_all_lem : Nows reading_all → Externals → ReadAllResult
-reads_all_lem s e = read_all s.0 s.1.0 s.1.1.0 s.1.1.1.0 s.1.1.1.1.0 s.1.1.1.1.1.0 e
+reads_all_lem s e = read_all s.0 s.1.0 s.1.1.0 s.1.1.1.0 s.1.1.1.1.0 e
 
 abbrev pub all_core_says : CoreSays E.the_type answer_and_externals reading_all
 all_core_says s z e r = (r ≡ read_all_shown e.reader (reads_all_lem s e).answer) × (z.0 ≡ (reads_all_lem s e).out)

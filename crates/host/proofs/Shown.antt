@@ -1,7 +1,7 @@
--- The host's shapes say what the core's say: flags their modes, a reader there and back, and what is found or not.
+-- The host's shapes say what the core's say: a flag its mode, a reader there and back, and what is found or not.
 use Prim.Native.Nat.{ℕ}
 use mathlib.Core.Path.{◌≡◌, refl, ap}
-use mathlib.Core.Bool.{Bool, true, false}
+use mathlib.Core.Bool.{true, false}
 use mathlib.Core.List.{List}
 use Rattle.ext_types.specs.declared.ChainTime.{ChainTime}
 use Rattle.shard_ident.specs.Shard as shard
@@ -12,7 +12,7 @@ use Rattle.anchors_cache.specs.declared.FoundAnchor.TheVariants as front
 use Rattle.anchors_cache.specs.declared.FoundInfo.TheVariants as last
 use Rattle.range_rules.specs.declared.LastChainTime.{LastChainTime}
 use Rattle.range_rules.specs.declared.LastChainTime.TheVariants.{Nothing, Time}
-use Rattle.range_rules.specs.declared.ReadNextExternalsMode.TheVariants.{ToTheEnd, ToPreviuosReadTo, ToPreviuosReadToStrict}
+use Rattle.range_rules.specs.declared.ReadNextExternalsMode.TheVariants.{ToTheEnd, ToPreviuosReadTo}
 use Rattle.reader_rules.specs.declared.GetNextMessageGroupMode.TheVariants.{Continue, Refill}
 use Rattle.reader_rules.specs.declared.LastFree.TheVariants as lastFree
 use Rattle.reader_rules.specs.declared.ExternalsReader.{ExternalsReader}
@@ -25,15 +25,13 @@ use Rattle.host.specs.Shapes.{range_mode, last_time, saved_time, free_of, reader
 use Rattle.host.specs.Calls.{ours_shown, partition_shown, read_all_shown, read_all, read_range_shown}
 
 -- ---- modes
--- the second flag is handed on as it is
-pub the_flags_of_a_read_of_all_say_Refill_or_Continue_and_strict_or_not : (out tables area routes : List ℕ) (strict : Bool) (e : Externals)
-    → (read_all out tables area routes true strict e ≡ read_all_call tables area e.transaction routes (reader_of e.reader) Refill strict out)
-    × (read_all out tables area routes false strict e ≡ read_all_call tables area e.transaction routes (reader_of e.reader) Continue strict out)
+pub the_flag_of_a_read_of_all_says_Refill_or_Continue : (out tables area routes : List ℕ) (e : Externals)
+    → (read_all out tables area routes true e ≡ read_all_call tables area e.transaction routes (reader_of e.reader) Refill out) × (read_all out tables area routes false e ≡ read_all_call tables area e.transaction routes (reader_of e.reader) Continue out)
 unfolding read_all
-the_flags_of_a_read_of_all_say_Refill_or_Continue_and_strict_or_not out tables area routes strict e = (refl, refl)
+the_flag_of_a_read_of_all_says_Refill_or_Continue out tables area routes e = (refl, refl)
 
-pub the_flags_of_a_range's_read_say_where_it_ends_and_how : (strict : Bool) → (range_mode true true ≡ ToPreviuosReadToStrict) × (range_mode true false ≡ ToPreviuosReadTo) × (range_mode false strict ≡ ToTheEnd)
-the_flags_of_a_range's_read_say_where_it_ends_and_how strict = (refl, refl, refl)
+pub the_flag_of_a_range's_read_says_where_it_ends : (range_mode true ≡ ToPreviuosReadTo) × (range_mode false ≡ ToTheEnd)
+the_flag_of_a_range's_read_says_where_it_ends = (refl, refl)
 
 -- ---- the reader
 time_back : (unset : ChainTime) (t : LastChainTime) → last_time (saved_time unset t).present (saved_time unset t).time ≡ t

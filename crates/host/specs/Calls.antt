@@ -93,8 +93,8 @@ read_all_shown was a =
       state = record { transaction = a.state; reader = left_reader was a.number a.reader };
     }
 
-unfoldable pub read_all : List ℕ → List ℕ → List ℕ → List ℕ → Bool → Bool → Externals → ReadAllResult
-read_all out tables area routes refill strict e = read_all_call tables area e.transaction routes (reader_of e.reader) (group_mode refill) strict out
+unfoldable pub read_all : List ℕ → List ℕ → List ℕ → List ℕ → Bool → Externals → ReadAllResult
+read_all out tables area routes refill e = read_all_call tables area e.transaction routes (reader_of e.reader) (group_mode refill) out
 
 -- one range's
 abbrev pub read_range_shown : ReadExternals → RangeRead
@@ -105,4 +105,4 @@ read_range_shown a =
     }
 
 unfoldable pub read_range : List ℕ → List ℕ → List ℕ → List ℕ → RangeSettings → RangeAndCache → ReadResult
-read_range out tables area routes s e = read_call tables area e.transaction s.shard routes s.limits s.processed s.timeout (range_mode s.to_previous s.strict) e.range out
+read_range out tables area routes s e = read_call tables area e.transaction s.shard routes s.limits s.processed s.timeout (range_mode s.to_previous) e.range out

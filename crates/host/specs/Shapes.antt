@@ -13,7 +13,7 @@ use Rattle.anchors_cache.specs.Calls.{on_zero}
 use Rattle.range_rules.specs.declared.LastChainTime.{LastChainTime}
 use Rattle.range_rules.specs.declared.LastChainTime.TheVariants.{Nothing, Time}
 use Rattle.range_rules.specs.declared.ReadNextExternalsMode.{ReadNextExternalsMode}
-use Rattle.range_rules.specs.declared.ReadNextExternalsMode.TheVariants.{ToTheEnd, ToPreviuosReadTo, ToPreviuosReadToStrict}
+use Rattle.range_rules.specs.declared.ReadNextExternalsMode.TheVariants.{ToTheEnd, ToPreviuosReadTo}
 use Rattle.reader_rules.specs.declared.GetNextMessageGroupMode.{GetNextMessageGroupMode}
 use Rattle.reader_rules.specs.declared.GetNextMessageGroupMode.TheVariants.{Continue, Refill}
 use Rattle.reader_rules.specs.declared.LastFree.{LastFree}
@@ -32,11 +32,9 @@ abbrev pub group_mode : Bool → GetNextMessageGroupMode
 group_mode true = Refill
 group_mode false = Continue
 
--- to the previous end, and strict; without the first the second says nothing
-abbrev pub range_mode : Bool → Bool → ReadNextExternalsMode
-range_mode true true = ToPreviuosReadToStrict
-range_mode true false = ToPreviuosReadTo
-range_mode false strict = ToTheEnd
+abbrev pub range_mode : Bool → ReadNextExternalsMode
+range_mode true = ToPreviuosReadTo
+range_mode false = ToTheEnd
 
 -- ---- a chain time that may be missing
 abbrev pub no_time : ChainTime

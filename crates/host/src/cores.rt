@@ -189,17 +189,16 @@ pub(crate) fn all_read(
     area: &[u8],
     routes: &[u8],
     refill: bool,
-    strict: bool,
     e: Externals,
 ) -> AllRead
-    ensures { (result ≡ read_all_shown e.reader (read_all out.old tables.now area.now routes.now refill strict e).answer)
-        × (out.new ≡ (read_all out.old tables.now area.now routes.now refill strict e).out) }
+    ensures { (result ≡ read_all_shown e.reader (read_all out.old tables.now area.now routes.now refill e).answer)
+        × (out.new ≡ (read_all out.old tables.now area.now routes.now refill e).out) }
 {
     let t = e.transaction;
     let was = e.reader;
     let reader = shapes::reader_of(was);
     let mode = shapes::group_mode(refill);
-    let a = externals_reader::read_into_buffers(tables, area, t, routes, reader, mode, strict, out);
+    let a = externals_reader::read_into_buffers(tables, area, t, routes, reader, mode, out);
     let counts = a.counts;
     let after = a.state;
     let last = a.free;
@@ -237,7 +236,7 @@ pub(crate) fn range_read(
     let limits = settings.limits;
     let processed = settings.processed;
     let timeout = settings.timeout;
-    let mode = shapes::range_mode(settings.to_previous, settings.strict);
+    let mode = shapes::range_mode(settings.to_previous);
     let a = range_reader::read_externals_into_buffers(
         tables, area, t, shard, routes, limits, processed, timeout, mode, range, out,
     );

@@ -69,8 +69,7 @@ pub struct RangeAndCache {
     pub range: ExternalsRangeReaderState,
 }
 
-// What a read of one range is told beside the routes. `to_previous`: only to the end that was read to before, and with
-// `strict` an expired anchor at which that end is reached is left where it is; without it `strict` says nothing.
+// What a read of one range is told beside the routes. `to_previous`: only to the end that was read to before.
 #[repr(C)]
 #[derive(Drop)]
 pub struct RangeSettings {
@@ -79,7 +78,6 @@ pub struct RangeSettings {
     pub processed: [ProcessedTo; 8],
     pub timeout: Seconds,
     pub to_previous: bool,
-    pub strict: bool,
 }
 
 // A history entry with its author.
@@ -598,8 +596,7 @@ pub extern "C" fn ext_create_next_externals_range_state(reader: Reader) -> NextR
 }
 
 // ---- the reads
-// `refill` is the Rust's mode: Refill, else Continue. With `strict` an older range leaves an expired anchor at which its
-// saved end is reached. The entries take the first `used` bytes of `out`.
+// `refill` is the Rust's mode: Refill, else Continue. The entries take the first `used` bytes of `out`.
 #[unsafe(no_mangle)]
 pub extern "C" fn ext_read_into_buffers(
     e: &mut Externals,
@@ -608,13 +605,12 @@ pub extern "C" fn ext_read_into_buffers(
     area: &[u8],
     routes: &[u8],
     refill: bool,
-    strict: bool,
 ) -> AllAnswer
-    ensures { (result ≡ (read_all_shown e.old.reader (read_all out.old tables.now area.now routes.now refill strict e.old).answer).answer)
-        × (e.new ≡ (read_all_shown e.old.reader (read_all out.old tables.now area.now routes.now refill strict e.old).answer).state)
-        × (out.new ≡ (read_all out.old tables.now area.now routes.now refill strict e.old).out) }
+    ensures { (result ≡ (read_all_shown e.old.reader (read_all out.old tables.now area.now routes.now refill e.old).answer).answer)
+        × (e.new ≡ (read_all_shown e.old.reader (read_all out.old tables.now area.now routes.now refill e.old).answer).state)
+        × (out.new ≡ (read_all out.old tables.now area.now routes.now refill e.old).out) }
 {
-    let r = cores::all_read(out, tables, area, routes, refill, strict, *e);
+    let r = cores::all_read(out, tables, area, routes, refill, *e);
     *e = r.state;
     r.answer
 }

@@ -26,13 +26,10 @@ pub(crate) fn group_mode(refill: bool) -> GetNextMessageGroupMode
     GetNextMessageGroupMode::Continue
 }
 
-pub(crate) fn range_mode(to_previous: bool, strict: bool) -> ReadNextExternalsMode
-    ensures { result ≡ range_mode to_previous strict }
+pub(crate) fn range_mode(to_previous: bool) -> ReadNextExternalsMode
+    ensures { result ≡ range_mode to_previous }
 {
     if to_previous {
-        if strict {
-            return ReadNextExternalsMode::ToPreviuosReadToStrict;
-        }
         return ReadNextExternalsMode::ToPreviuosReadTo;
     }
     ReadNextExternalsMode::ToTheEnd

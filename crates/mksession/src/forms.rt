@@ -24,7 +24,7 @@ pub const UNREAD: u8 = 7;
 // Marks: `:` the name is written, `=` it is not, `?` the field may be left out and is 0 then, `+` like `=`, left out
 // with
 // the one before, `!` the name is the value, `*` any number of words.
-pub const FORMS: [u8; 1370] = *b"shard 0001 i4=workchain x8=prefix
+pub const FORMS: [u8; 1312] = *b"shard 0001 i4=workchain x8=prefix
 settings 0003 u8:next_ms u4:timeout_s u4:seqno u1:open_limit u1:waiting l2:limits l2=limit l2=limit l2=limit l2=limit l2=limit l2=limit l2=limit
 route 0002 a0=address u1:partition
 anchor 0004 u4:id u8:time_ms c0?by u4:ours u2!0 m0*message
@@ -54,8 +54,6 @@ info_at 0114 u8:time_ms
 in_range 0115 u4=id u8=offset
 new 0116
 info 0117 u4:id u8:time_ms u4:all u4:ours c0?by
-strict_one 0130 u4:seqno u1:mode
-strict_read 0131 u1:mode
 hex 0000 h0*bytes";
 
 // Along a line and a form at once: where each goes on, where the next byte goes, whether the field before was left out,

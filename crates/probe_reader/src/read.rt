@@ -37,21 +37,17 @@ struct ReadDone {
 }
 
 // What is read: one range, at an index (past the table: none), or all; mode 0 is `ToTheEnd` or `Continue`, 1 the other
-// one; as it is or strict.
+// one.
 #[derive(Drop)]
 struct What {
     one: bool,
     index: usize,
     mode: u8,
-    strict: bool,
 }
 
-fn range_mode(mode: u8, strict: bool) -> ReadNextExternalsMode {
+fn range_mode(mode: u8) -> ReadNextExternalsMode {
     if mode == 0 {
         return ReadNextExternalsMode::ToTheEnd;
-    }
-    if strict {
-        return ReadNextExternalsMode::ToPreviuosReadToStrict;
     }
     ReadNextExternalsMode::ToPreviuosReadTo
 }
@@ -149,7 +145,7 @@ fn read_one(
     }
     let state = reader.reader_state;
     let range = state.ranges[i];
-    let mode = range_mode(what.mode, what.strict);
+    let mode = range_mode(what.mode);
     let r = range_read(tables, area, routes, t, reader, range, mode, output);
     after_one(reader, r)
 }
@@ -164,10 +160,7 @@ fn read_all(
     output: &mut [u8],
 ) -> ReadDone {
     let mode = group_mode(what.mode);
-    let strict = what.strict;
-    let r = externals_reader::read_into_buffers(
-        tables, area, t, routes, reader, mode, strict, output,
-    );
+    let r = externals_reader::read_into_buffers(tables, area, t, routes, reader, mode, output);
     let last = LastChainTime::Nothing;
     let counts = r.counts;
     let after = r.reader;
@@ -368,7 +361,6 @@ pub fn one(
     t: AnchorsCacheTransaction,
     reader: ExternalsReader,
     p: &[u8],
-    strict: bool,
 ) -> Answered
     ensures { Puts (record { at = at; bytes = out.old }) (record { at = result.at; bytes = out.new }) }
 {
@@ -376,7 +368,6 @@ pub fn one(
         one: true,
         index: given::find(reader.reader_state, rows::u32_at(p, 0)),
         mode: rows::byte_at(p, 4),
-        strict: strict,
     };
     read(out, at, tables, area, routes, lent, t, reader, what)
 }
@@ -392,7 +383,6 @@ pub fn all(
     t: AnchorsCacheTransaction,
     reader: ExternalsReader,
     mode: u8,
-    strict: bool,
 ) -> Answered
     ensures { Puts (record { at = at; bytes = out.old }) (record { at = result.at; bytes = out.new }) }
 {
@@ -400,7 +390,6 @@ pub fn all(
         one: false,
         index: MAX_RANGES,
         mode: mode,
-        strict: strict,
     };
     read(out, at, tables, area, routes, lent, t, reader, what)
 }

@@ -1,5 +1,4 @@
 pub mod Entered
 pub mod Laws
-pub mod Strict
 pub mod Conservation
 pub mod Kept

@@ -23,11 +23,10 @@ use Rattle.anchors_cache.proofs.Laws.{anchors_cons, anchors_none, total_more}
 use Rattle.range_rules.specs.declared.Context.{Context}
 use Rattle.range_rules.specs.declared.Walk.{Walk}
 use Rattle.range_rules.specs.declared.RangeRead.{RangeRead}
-use Rattle.range_rules.specs.Rules.{Outcome, silent, followed, end_reached, ends, full, stopped, refused_with, message_read, messages_read, expired_one, expired_over, fully_read_of, popped, looked, expired, stays, expired_read, leave, after_pop, is_whole, finished, unread, walked, anchor_read, anchors_read}
+use Rattle.range_rules.specs.Rules.{Outcome, silent, followed, end_reached, ends, full, stopped, refused_with, message_read, messages_read, expired_one, expired_over, fully_read_of, popped, looked, expired, leave, after_pop, is_whole, finished, unread, walked, anchor_read, anchors_read}
 use Rattle.range_rules.specs.Bounds.{Within, Few}
 use Rattle.range_reader.specs.Ready.{Wrote, RangeReady, first_unread, read_or_refused}
 use Rattle.range_rules.proofs.Counts.{weaker, within_up, within_refused, message_stepped, expired_one_le}
-use Rattle.range_rules.proofs.Strict.{pop_one}
 use Rattle.range_rules.proofs.WalkEnd.{past_the_count_no_message_is_walked}
 use Rattle.range_reader.proofs.MessageLaws.{wrote_nothing, wrote_long, wrote_more}
 
@@ -89,8 +88,12 @@ pub record RangeKept (x : Context) (k used pops : ℕ) (s : Outcome RangeRead) :
   pub used_part : s.value.walk.buffers.used ≡ used + length s.entries
   pub few_pops : s.value.pops ≤ pops
 
+pop_le : (b : Bool) (pops : ℕ) → after_pop b pops ≤ pops + 1
+pop_le true pops = omega arith
+pop_le false pops = omega arith
+
 left_kept : (x : Context) (k used : ℕ) (time : ChainTime) (s : Outcome Walk) (b fully ended : Bool) (pops : ℕ) → Kept x k used s → RangeKept x k used (pops + 1) (record { value = leave s.value time (after_pop b pops) fully ended; entries = s.entries })
-left_kept x k used time s b fully ended pops h = record { within = h.within; used_part = h.used_part; few_pops = (pop_one b pops).1 }
+left_kept x k used time s b fully ended pops h = record { within = h.within; used_part = h.used_part; few_pops = pop_le b pops }
 
 refused_used : (n : ℕ) (w : Walk) → (refused_with n w).buffers.used ≡ w.buffers.used
 unfolding refused_with
@@ -141,11 +144,6 @@ module _ (x : Context) (routes : List ℕ) (id : ℕ) (time : ChainTime) (l : Li
         few_pops = omega arith;
       }
 
-  stayed_kept : RangeKept x (k + length l) r.walk.buffers.used (r.pops + 1) (silent (leave (looked x id r.walk) time r.pops true true))
-  stayed_kept =
-      let w = looked x id r.walk in
-      record { within = within_up x k w (within_looked x k id r.walk h) (k + length l) (omega arith); used_part = looked_used x id r.walk ∙ (omega arith); few_pops = omega arith }
-
   walked_kept : RangeKept x (k + length l) r.walk.buffers.used (r.pops + 1) (walked x time (length l) (messages_read x routes time (unread (looked x id r.walk) l) (silent (looked x id r.walk))) r)
   walked_kept =
       let w = looked x id r.walk in
@@ -160,7 +158,7 @@ module _ (x : Context) (routes : List ℕ) (id : ℕ) (time : ChainTime) (l : Li
   anchor_kept =
       let P = RangeKept x (k + length l) r.walk.buffers.used (r.pops + 1) in
       pick_both P (ltb id x.position.anchor_id) (silent (popped r)) _ (record { within = within_up x k r.walk h (k + length l) (omega arith); used_part = omega arith; few_pops = omega arith })
-      (pick_both P (expired_at x.chain_time time x.limit) _ _ (pick_both (λ (q : RangeRead). P (silent q)) (stays x.mode (looked x id r.walk).place.reached) _ _ stayed_kept expired_kept) walked_kept)
+      (pick_both P (expired_at x.chain_time time x.limit) _ _ expired_kept walked_kept)
 
 -- ---- one look at an anchor, put together from what its parts ensure
 unread_first : (offset : ℕ) (l : List (List ℕ)) (count : ℕ) → length l ≡ count → drop (first_unread offset count) l ≡ drop offset l
@@ -189,13 +187,15 @@ module _ (x : Context) (routes area : List ℕ) (id : ℕ) (time : ChainTime) (p
   anchor_popped used q i e = rw (lt-ltb id x.position.anchor_id i) (wrote_nothing write used out q (popped r) e)
 
   module _ (w : Walk) (f : ℕ) (i : x.position.anchor_id ≤ id) (we : w ≡ looked x id r.walk) (fe : f ≡ first_unread w.place.key.msgs_offset count) (fl : f ≤ count) where
-    pub anchor_expired : (used : ℕ) (q : RangeRead) → expired_at x.chain_time time x.limit ≡ true
-        → q ≡ expired_read x routes time (rows 33 (count - f) (take (33 * (place + count) - 33 * (place + f)) (drop (33 * (place + f)) area))) w r → Wrote write used out out q (anchor_read x routes id time (rows 33 count (drop (33 * place) area)) r)
+    pub anchor_expired : (used : ℕ) (counts : List ℕ) (q : RangeRead) → expired_at x.chain_time time x.limit ≡ true
+        → counts ≡ expired_over x.shard routes (rows 33 (count - f) (take (33 * (place + count) - 33 * (place + f)) (drop (33 * (place + f)) area))) w.counts.expired
+        → q ≡ expired x time counts w r → Wrote write used out out q (anchor_read x routes id time (rows 33 count (drop (33 * place) area)) r)
     unfolding anchor_read
-    anchor_expired used q e qe =
-        let u = drop w.place.key.msgs_offset (rows 33 count (drop (33 * place) area)) in
+    anchor_expired used counts q e ce qe =
+        let l = rows 33 count (drop (33 * place) area) in
+        let c : counts ≡ expired_over x.shard routes (drop w.place.key.msgs_offset l) w.counts.expired = ce ∙ ap (λ (m : List (List ℕ)). expired_over x.shard routes m w.counts.expired) (rest_messages area place count w.place.key.msgs_offset f fe fl) in
         rw (le-ltb id x.position.anchor_id i, e, sym we)
-        (wrote_nothing write used out q (expired_read x routes time u w r) (qe ∙ ap (λ (m : List (List ℕ)). expired_read x routes time m w r) (rest_messages area place count w.place.key.msgs_offset f fe fl)))
+        (wrote_nothing write used out q (expired x time (expired_over x.shard routes (drop w.place.key.msgs_offset l) w.counts.expired) w r) (qe ∙ ap (λ (n : List ℕ). expired x time n w r) c))
 
     module _ (fresh : expired_at x.chain_time time x.limit ≡ false) where
       -- over the messages from the offset on

@@ -28,7 +28,7 @@ use Rattle.range_rules.specs.declared.ReadNextExternalsMode.{ReadNextExternalsMo
 use Rattle.range_rules.specs.declared.ExternalsRangeReaderState.{ExternalsRangeReaderState}
 use Rattle.range_rules.specs.declared.Verdict.{Verdict}
 use Rattle.range_rules.specs.declared.Verdict.TheVariants.{Keep, Buffer, Refuse}
-use Rattle.range_rules.specs.Rules.{Outcome, silent, followed, advanced, ends, full, stopped, no_processed, more, refused_with, read_one, buffered, buffer_one, after, verdict_on, our_read, message_read, messages_read, popped, looked, expired_over, expired, is_whole, finished, unread, anchor_read, next_read, anchors_read, context_of, entry_of, entry_len, stays}
+use Rattle.range_rules.specs.Rules.{Outcome, silent, followed, advanced, ends, full, stopped, no_processed, more, refused_with, read_one, buffered, buffer_one, after, verdict_on, our_read, message_read, messages_read, popped, looked, expired_over, expired, is_whole, finished, unread, anchor_read, next_read, anchors_read, context_of, entry_of, entry_len}
 use Rattle.range_reader.specs.Calls.{asked_number, refused_answer, done_result, range_read, read_call}
 use Rattle.rows.proofs.Laws.{pick_both}
 use Rattle.range_rules.proofs.Counts.{judge_buffer}
@@ -115,7 +115,7 @@ module _ (x : Context) (routes : List ℕ) (sound : routes_number routes ≡ 0) 
       let s = messages_read x routes time (unread w l) (silent w) in
       let P : Outcome RangeRead → Type 0 = λ q. Tallied x q.value.walk in
       pick_both P (ltb id x.position.anchor_id) (silent (popped r)) _ h
-      (pick_both P (expired_at x.chain_time time x.limit) _ _ (pick_both (λ (q : RangeRead). Tallied x q.walk) (stays x.mode w.place.reached) _ _ g (expired_tallied x w g time (expired_over x.shard routes (unread w l) w.counts.expired) r))
+      (pick_both P (expired_at x.chain_time time x.limit) _ _ (expired_tallied x w g time (expired_over x.shard routes (unread w l) w.counts.expired) r)
       (finished_tallied x s.value (messages_tallied time (unread w l) (silent w) g) time (length l) r))
 
   anchors_tallied : (l : List Anchor) (s : Outcome RangeRead) → Tallied x s.value.walk → Tallied x (anchors_read x routes l s).value.walk

@@ -1,20 +1,18 @@
 // The range's read over the cached anchors. The cache is seen by index; the pops are counted.
-ghost use Rattle.std.specs.Prelude.{◌≡◌, true, ◌&&◌, ◌+◌, ◌*◌, ◌<◌, ◌≤◌, length, drop};
+ghost use Rattle.std.specs.Prelude.{◌≡◌, ◌&&◌, ◌+◌, ◌*◌, ◌<◌, ◌≤◌, length, drop};
 ghost use Rattle.rows.specs.Rows.{rows};
-ghost use Rattle.shard_ident.specs.Shard.{is_shard};
 ghost use Rattle.router.specs.Router.{routes_number};
 ghost use Rattle.cache_rules.specs.Rules.{total, max_anchors, max_messages};
 ghost use Rattle.anchors_cache.specs.Tables.{anchors, anchors_of, tables_bytes};
 ghost use Rattle.anchors_cache.specs.Calls.{anchor_found};
-ghost use Rattle.range_rules.specs.Rules.{offset_in, refused_with, looked, popped, stays, expired, expired_read, after_pop, leave, finished, anchor_read, fully_read_of};
-ghost use Rattle.range_rules.specs.Bounds.{Few};
+ghost use Rattle.range_rules.specs.Rules.{offset_in, refused_with, looked, popped, expired, after_pop, leave, finished, anchor_read, fully_read_of};
 ghost use Rattle.range_rules.specs.Refusals.{cannot_refuse};
 ghost use Rattle.range_reader.specs.Ready.{AnchorReady, RangeReady, Wrote, first_unread, whole_window_read, read_or_refused};
 
 use crate::{messages, refusals};
 use anchors_cache::{AnchorsCache, CachedAnchor, FoundAnchor};
 use ext_types::{ChainTime, ExternalKey};
-use range_rules::{Context, LastChainTime, Place, RangeRead, ReadNextExternalsMode, Walk};
+use range_rules::{Context, LastChainTime, Place, RangeRead, Walk};
 use router::MESSAGE_LEN;
 
 // The front of the `left` anchors from index `at` on.
@@ -86,17 +84,6 @@ fn popped(r: RangeRead) -> RangeRead
     q
 }
 
-// In strict an expired anchor at which the saved end is reached is left where it is.
-fn stays(mode: ReadNextExternalsMode, reached: bool) -> bool
-    ensures { result ≡ stays mode reached }
-{
-    match mode {
-        ReadNextExternalsMode::ToTheEnd => false,
-        ReadNextExternalsMode::ToPreviuosReadTo => false,
-        ReadNextExternalsMode::ToPreviuosReadToStrict => reached,
-    }
-}
-
 // Step 4: the position is (id, offset), not the anchor's end.
 fn expired(x: Context, time: ChainTime, counts: [u32; 8], w: Walk, r: RangeRead) -> RangeRead
     requires { r.pops < max_anchors }
@@ -132,31 +119,6 @@ fn leave(w: Walk, time: ChainTime, pops: usize, fully_read: bool, ended: bool) -
         ended: ended,
         last: last,
     }
-}
-
-// An expired anchor of which n messages are unread.
-fn expired_read(
-    x: Context,
-    routes: &[u8],
-    time: ChainTime,
-    rest: &[u8],
-    n: usize,
-    w: Walk,
-    r: RangeRead,
-) -> RangeRead
-    requires { (is_shard x.shard ≡ true) × (routes_number routes.now ≡ 0) × (33 * n ≤ length rest.now) × Few x n w × (r.pops < max_anchors) }
-    ensures { result ≡ expired_read x routes.now time (rows 33 n rest.now) w r }
-{
-    let place = w.place;
-    let mode = x.mode;
-    if stays(mode, place.reached) {
-        return leave(w, time, r.pops, true, true);
-    }
-    let shard = x.shard;
-    let counts = w.counts;
-    let before = counts.expired;
-    let all = messages::count_expired(shard, routes, rest, n, before);
-    expired(x, time, all, w, r)
 }
 
 fn after_pop(whole: bool, pops: usize) -> usize
@@ -236,7 +198,11 @@ fn anchor_read(
     let now = x.chain_time;
     let limit = x.limit;
     if ext_types::is_expired(now, time, limit) {
-        return expired_read(x, routes, time, rest, n, w, r);
+        let shard = x.shard;
+        let counts = w.counts;
+        let before = counts.expired;
+        let all = messages::count_expired(shard, routes, rest, n, before);
+        return expired(x, time, all, w, r);
     }
     // No message is left, and the offset may be any 64 bits.
     if (count as u64) < key.msgs_offset {

@@ -84,7 +84,6 @@ pub(crate) fn ends(mode: ReadNextExternalsMode, reached: bool) -> bool
     match mode {
         ReadNextExternalsMode::ToTheEnd => false,
         ReadNextExternalsMode::ToPreviuosReadTo => reached,
-        ReadNextExternalsMode::ToPreviuosReadToStrict => reached,
     }
 }
 
@@ -115,7 +114,6 @@ fn walk_end(mode: ReadNextExternalsMode, end: ExternalKey, key: ExternalKey, las
     match mode {
         ReadNextExternalsMode::ToTheEnd => last,
         ReadNextExternalsMode::ToPreviuosReadTo => saved_end_before(end, key, last),
-        ReadNextExternalsMode::ToPreviuosReadToStrict => saved_end_before(end, key, last),
     }
 }
 

@@ -1,14 +1,12 @@
 -- Document 01's six steps, where they are easily misread: each law is a sentence of the paper about one step.
 use Prim.Native.Nat.{ℕ, zero, suc, ◌+◌, ◌≤◌, ◌<◌}
 use mathlib.Core.Path.{◌≡◌, refl, sym, ap, ◌∙◌}
-use mathlib.Core.Bool.{Bool, true, false, not, ◌&&◌, ◌||◌}
+use mathlib.Core.Bool.{Bool, true, false, not, ◌||◌}
 use mathlib.Core.List.{List, [], ◌∷◌}
 use native.Mathlib.Omega.{arith}
 use lib.Dec.{eqb, ltb}
-use lib.ListN.{length}
 use borrow.Author.Tests.{eq-eqb, le-ltb, le-leb, lt-leb}
-use Rattle.rows.specs.Rows.{pick}
-use Rattle.rows.proofs.Laws.{pick_yes, pick_no, no_later, or_none, never}
+use Rattle.rows.proofs.Laws.{pick_yes, pick_no, no_later, or_none}
 use Rattle.ext_types.specs.declared.ChainTime.{ChainTime}
 use Rattle.ext_types.specs.declared.ExternalKey.{ExternalKey}
 use Rattle.ext_types.specs.Keys.{key_above, key_equal}
@@ -25,12 +23,11 @@ use Rattle.range_rules.specs.declared.Walk.{Walk}
 use Rattle.range_rules.specs.declared.RangeRead.{RangeRead}
 use Rattle.range_rules.specs.declared.ProcessedTo.{ProcessedTo}
 use Rattle.range_rules.specs.declared.ReadNextExternalsMode.{ReadNextExternalsMode}
-use Rattle.range_rules.specs.declared.ReadNextExternalsMode.TheVariants.{ToTheEnd, ToPreviuosReadTo, ToPreviuosReadToStrict}
+use Rattle.range_rules.specs.declared.ReadNextExternalsMode.TheVariants.{ToTheEnd}
 use Rattle.range_rules.specs.declared.LastChainTime.TheVariants.{Nothing}
 use Rattle.range_rules.specs.declared.ExternalsRangeReaderState.{ExternalsRangeReaderState}
 use Rattle.range_rules.specs.declared.Verdict.TheVariants.{Keep, Buffer, Refuse}
-use Rattle.range_rules.specs.Rules.{Outcome, silent, key_at, with_place, next_key, end_reached, raised, advanced, ends, full, stopped, no_key, no_processed, judge, more, read_one, buffer_one, after, popped, offset_in, look_key, looked, messages_read, expired_over, expired, stays, unread, walked, leave, after_pop, is_whole, finished, anchor_read, anchors_read, context_of, entry_of, six_steps, range_after, range_questions}
-use Rattle.range_rules.specs.Strict.{stays_in}
+use Rattle.range_rules.specs.Rules.{Outcome, key_at, with_place, next_key, end_reached, raised, advanced, ends, full, stopped, no_key, no_processed, judge, more, read_one, buffer_one, after, popped, offset_in, look_key, looked, expired, leave, after_pop, is_whole, finished, anchor_read, anchors_read, context_of, entry_of, six_steps, range_after, range_questions}
 
 abbrev zeros : List ℕ
 zeros = 0 ∷ 0 ∷ 0 ∷ 0 ∷ 0 ∷ 0 ∷ 0 ∷ 0 ∷ []
@@ -142,62 +139,27 @@ pub any_anchor_above_the_saved_end's_reaches_it : (key end : ExternalKey) → lt
 any_anchor_above_the_saved_end's_reaches_it key end e = rw e
 
 -- ---- step 4
-pub outside_strict_no_anchor_stays : (reached : Bool) → (stays ToTheEnd reached ≡ false) × (stays ToPreviuosReadTo reached ≡ false)
-outside_strict_no_anchor_stays reached = (refl, refl)
-
--- Document 02, ticket 6, of an anchor that stays: only that it was looked at, and that the range is fully read
-pub an_anchor_that_stays_only_ends_the_read : (x : Context) (routes : List ℕ) (id : ℕ) (time : ChainTime) (l : List (List ℕ)) (r : RangeRead) → stays_in x id time ≡ true → anchor_read x routes id time l r ≡ silent (leave (looked x id r.walk) time r.pops true true)
-unfolding anchor_read looked
-an_anchor_that_stays_only_ends_the_read x routes id time l r = go (ltb id x.position.anchor_id) (expired_at x.chain_time time x.limit) (stays x.mode (end_reached (look_key x id) x.saved_end))
-  where
-    w : Walk
-    w = looked x id r.walk
-
-    go : (a b c : Bool) → (not a && (b && c)) ≡ true
-        → pick a (silent (popped r)) (pick b (silent (pick c (leave w time r.pops true true) (expired x time (expired_over x.shard routes (unread w l) w.counts.expired) w r))) (walked x time (length l) (messages_read x routes time (unread w l) (silent w)) r)) ≡ silent (leave w time r.pops true true)
-    go true b c e = never (sym e)
-    go false true true e = refl
-    go false true false e = never (sym e)
-    go false false c e = never (sym e)
-
--- of any other, whatever the buffers hold
-module _ (x : Context) (routes : List ℕ) (id : ℕ) (time : ChainTime) (l : List (List ℕ)) (r : RangeRead) (i : ltb id x.position.anchor_id ≡ false) (old : expired_at x.chain_time time x.limit ≡ true)
-    (taken : stays x.mode (end_reached (look_key x id) x.saved_end) ≡ false) where
-  abbrev step_4 : RangeRead
-  step_4 = expired x time (expired_over x.shard routes (unread (looked x id r.walk) l) (looked x id r.walk).counts.expired) (looked x id r.walk) r
-
-  taken_as_expired : anchor_read x routes id time l r ≡ silent step_4
-  unfolding anchor_read looked
-  taken_as_expired = pick_no _ _ _ i ∙ (pick_yes _ _ _ old ∙ ap (λ (q : RangeRead). silent q) (pick_no _ _ _ taken))
-
+-- whatever the buffers hold
+module _ (x : Context) (routes : List ℕ) (id : ℕ) (time : ChainTime) (l : List (List ℕ)) (r : RangeRead) (i : ltb id x.position.anchor_id ≡ false) (old : expired_at x.chain_time time x.limit ≡ true) where
   pub an_expired_anchor_is_popped_full_or_not : (anchor_read x routes id time l r).value.pops ≡ r.pops + 1
-  unfolding expired
-  an_expired_anchor_is_popped_full_or_not = ap (λ (s : Outcome RangeRead). s.value.pops) taken_as_expired
+  unfolding anchor_read expired
+  an_expired_anchor_is_popped_full_or_not = ap (λ (s : Outcome RangeRead). s.value.pops) (pick_no _ _ _ i ∙ pick_yes _ _ _ old)
 
   pub an_expired_anchor_does_not_end_the_read : (anchor_read x routes id time l r).value.ended ≡ false
-  unfolding expired
-  an_expired_anchor_does_not_end_the_read = ap (λ (s : Outcome RangeRead). s.value.ended) taken_as_expired
+  unfolding anchor_read expired
+  an_expired_anchor_does_not_end_the_read = ap (λ (s : Outcome RangeRead). s.value.ended) (pick_no _ _ _ i ∙ pick_yes _ _ _ old)
 
   pub an_expired_anchor's_position_is_its_id_and_offset : (anchor_read x routes id time l r).value.walk.place.position ≡ look_key x id
-  unfolding expired looked
-  an_expired_anchor's_position_is_its_id_and_offset = ap (λ (s : Outcome RangeRead). s.value.walk.place.position) taken_as_expired
+  unfolding anchor_read expired looked
+  an_expired_anchor's_position_is_its_id_and_offset = ap (λ (s : Outcome RangeRead). s.value.walk.place.position) (pick_no _ _ _ i ∙ pick_yes _ _ _ old)
 
   pub an_expired_anchor_leaves_the_fully_read_mark : (anchor_read x routes id time l r).value.fully_read ≡ r.fully_read
-  unfolding expired
-  an_expired_anchor_leaves_the_fully_read_mark = ap (λ (s : Outcome RangeRead). s.value.fully_read) taken_as_expired
+  unfolding anchor_read expired
+  an_expired_anchor_leaves_the_fully_read_mark = ap (λ (s : Outcome RangeRead). s.value.fully_read) (pick_no _ _ _ i ∙ pick_yes _ _ _ old)
 
   pub an_expired_anchor's_messages_are_not_put : (anchor_read x routes id time l r).entries ≡ []
-  an_expired_anchor's_messages_are_not_put = ap (λ (s : Outcome RangeRead). s.entries) taken_as_expired
-
--- "In strict, with `ToPreviuosReadTo`, an expired anchor at which the saved end is reached isn't taken", and any other is
-module _ (x : Context) (routes : List ℕ) (id : ℕ) (time : ChainTime) (l : List (List ℕ)) (r : RangeRead) (strict : x.mode ≡ ToPreviuosReadToStrict) (i : ltb id x.position.anchor_id ≡ false) (old : expired_at x.chain_time time x.limit ≡ true) where
-  pub in_strict_an_expired_anchor_at_the_saved_end_isn't_popped : end_reached (look_key x id) x.saved_end ≡ true → (anchor_read x routes id time l r).value.pops ≡ r.pops
-  in_strict_an_expired_anchor_at_the_saved_end_isn't_popped e =
-      let s : stays x.mode (end_reached (look_key x id) x.saved_end) ≡ true = ap (λ (m : ReadNextExternalsMode). stays m (end_reached (look_key x id) x.saved_end)) strict ∙ ap (stays ToPreviuosReadToStrict) e in
-      ap (λ (q : Outcome RangeRead). q.value.pops) (an_anchor_that_stays_only_ends_the_read x routes id time l r (rw (i, old) s))
-
-  pub in_strict_an_expired_anchor_before_the_saved_end_is_popped : end_reached (look_key x id) x.saved_end ≡ false → (anchor_read x routes id time l r).value.pops ≡ r.pops + 1
-  in_strict_an_expired_anchor_before_the_saved_end_is_popped e = an_expired_anchor_is_popped_full_or_not x routes id time l r i old (ap (λ (m : ReadNextExternalsMode). stays m (end_reached (look_key x id) x.saved_end)) strict ∙ ap (stays ToPreviuosReadToStrict) e)
+  unfolding anchor_read
+  an_expired_anchor's_messages_are_not_put = ap (λ (s : Outcome RangeRead). s.entries) (pick_no _ _ _ i ∙ pick_yes _ _ _ old)
 
 -- ---- step 5
 pub the_saved_end_is_the_one_at_entry : (x : Context) (w : Walk) → (advanced x w).place.reached ≡ end_reached (next_key w.place.key) x.saved_end

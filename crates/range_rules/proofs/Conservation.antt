@@ -1,7 +1,7 @@
 -- Every message of ours that the read passes is counted once, as read or as expired, in its own partition.
 use Prim.Native.Nat.{ℕ, suc, ◌+◌, ◌-◌, ◌≤◌, ◌<◌, zero}
 use mathlib.Core.Path.{◌≡◌, refl, sym, ap, ◌∙◌}
-use mathlib.Core.Bool.{Bool, true, false, not, ◌&&◌, ◌||◌}
+use mathlib.Core.Bool.{Bool, true, false, not, ◌||◌}
 use mathlib.Core.List.{List, [], ◌∷◌, ◌++◌}
 use mathlib.Core.Logic.{◌⊎◌, inl, inr}
 use native.Mathlib.Omega.{arith}
@@ -33,9 +33,7 @@ use Rattle.range_rules.specs.declared.Verdict.TheVariants.{Keep, Buffer, Refuse}
 use Rattle.ext_types.proofs.Laws.{fact_above, above_transitive}
 use Rattle.range_rules.specs.declared.ExternalsRangeReaderState.{ExternalsRangeReaderState}
 use Rattle.range_rules.proofs.Counts.{zeros}
-use Rattle.range_rules.specs.Rules.{range_after, six_steps, entry_of, key_at, raised, moved_to, look_key, Outcome, silent, followed, next_key, advanced, ends, full, stopped, judge, no_processed, more, refused_with, read_one, buffer_one, after, verdict_on, our_read, message_read, messages_read, popped, offset_in, looked, expired_one, expired_over, expired, end_reached, stays, leave, is_whole, finished, unread, walked, anchor_read, next_read, anchors_read, entry_len}
-use Rattle.range_rules.specs.Strict.{stays_in}
-use Rattle.range_rules.proofs.ByStep.{an_anchor_that_stays_only_ends_the_read}
+use Rattle.range_rules.specs.Rules.{range_after, six_steps, entry_of, key_at, raised, moved_to, look_key, Outcome, silent, followed, next_key, advanced, ends, full, stopped, judge, no_processed, more, refused_with, read_one, buffer_one, after, verdict_on, our_read, message_read, messages_read, popped, offset_in, looked, expired_one, expired_over, expired, is_whole, finished, unread, walked, anchor_read, next_read, anchors_read, entry_len}
 use Rattle.range_rules.proofs.Walks.{message_place}
 use Rattle.range_rules.proofs.Positions.{finished_place, looked_key}
 
@@ -272,7 +270,7 @@ unfolding refused_with
 refused_counts n w = refl
 
 module _ (x : Context) (time : ChainTime) (count : ℕ) (w : Walk) (r : RangeRead) where
-  pub finished_counts : (finished x time count w r).walk.counts ≡ w.counts
+  finished_counts : (finished x time count w r).walk.counts ≡ w.counts
   unfolding finished
   finished_counts =
       let P : RangeRead → Type 0 = λ q. q.walk.counts ≡ w.counts in
@@ -332,20 +330,17 @@ looked_offset : (x : Context) (id : ℕ) (w : Walk) → (looked x id w).place.ke
 unfolding looked
 looked_offset x id w = refl
 
-module _ (x : Context) (routes : List ℕ) (time : ChainTime) where
+module _ (x : Context) (routes : List ℕ) (time : ChainTime) (sound : routes_number routes ≡ 0) where
   -- a look that does not end the read was not refused
-  pub going_number : (id : ℕ) (l : List (List ℕ)) (r : RangeRead) → r.walk.number ≡ 0 → (anchor_read x routes id time l r).value.ended ≡ false → (anchor_read x routes id time l r).value.walk.number ≡ 0
+  going_number : (id : ℕ) (l : List (List ℕ)) (r : RangeRead) → r.walk.number ≡ 0 → (anchor_read x routes id time l r).value.ended ≡ false → (anchor_read x routes id time l r).value.walk.number ≡ 0
   unfolding anchor_read expired
   going_number id l r n =
       let w = looked x id r.walk in
       let s = messages_read x routes time (unread w l) (silent w) in
       let P : Outcome RangeRead → Type 0 = λ q. q.value.ended ≡ false → q.value.walk.number ≡ 0 in
       pick_both P (ltb id x.position.anchor_id) (silent (popped r)) _ (λ e. n)
-      (pick_both P (expired_at x.chain_time time x.limit) _ _
-      (pick_both (λ (q : RangeRead). q.ended ≡ false → q.walk.number ≡ 0) (stays x.mode w.place.reached) _ _ (λ e. never e) (λ e. looked_number x id r.walk ∙ n))
-      (finished_going x time (length l) s.value r))
+      (pick_both P (expired_at x.chain_time time x.limit) _ _ (λ e. looked_number x id r.walk ∙ n) (finished_going x time (length l) s.value r))
 
-module _ (x : Context) (routes : List ℕ) (time : ChainTime) (sound : routes_number routes ≡ 0) where
   module _ (id : ℕ) (l : List (List ℕ)) (r : RangeRead) (eight : Eight r.walk.counts) where
     expired_passed : AnchorPassed x routes id false true (drop (offset_in x.position id) l) r (expired x time (expired_over x.shard routes (unread (looked x id r.walk) l) (looked x id r.walk).counts.expired) (looked x id r.walk) r)
     unfolding expired
@@ -409,10 +404,9 @@ module _ (x : Context) (routes : List ℕ) (time : ChainTime) (sound : routes_nu
         ended q u k (inl h) f = inl (h.0, take_all k u (f h.1))
         ended q u k (inr h) f = inr h
 
-    -- one that stays apart
-    pub anchor_passed : stays_in x id time ≡ false → (anchor_read x routes id time l r).value.walk.number ≡ 0 → AnchorPassed x routes id (ltb id x.position.anchor_id) (expired_at x.chain_time time x.limit) (unread_in x id l) r (anchor_read x routes id time l r).value
-    unfolding anchor_read ours_in looked
-    anchor_passed = go (ltb id x.position.anchor_id) (expired_at x.chain_time time x.limit) (stays x.mode (end_reached (look_key x id) x.saved_end))
+    pub anchor_passed : (anchor_read x routes id time l r).value.walk.number ≡ 0 → AnchorPassed x routes id (ltb id x.position.anchor_id) (expired_at x.chain_time time x.limit) (unread_in x id l) r (anchor_read x routes id time l r).value
+    unfolding anchor_read ours_in
+    anchor_passed = go (ltb id x.position.anchor_id) (expired_at x.chain_time time x.limit)
       where
         w : Walk
         w = looked x id r.walk
@@ -421,18 +415,11 @@ module _ (x : Context) (routes : List ℕ) (time : ChainTime) (sound : routes_nu
         no_more true p = omega arith
         no_more false p = omega arith
 
-        expired_here : RangeRead
-        expired_here = expired x time (expired_over x.shard routes (unread w l) w.counts.expired) w r
-
-        read_here : Outcome RangeRead
-        read_here = walked x time (length l) (messages_read x routes time (unread w l) (silent w)) r
-
-        go : (a b c : Bool) → (not a && (b && c)) ≡ false → (pick a (silent (popped r)) (pick b (silent (pick c (leave w time r.pops true true) expired_here)) read_here)).value.walk.number ≡ 0
-            → AnchorPassed x routes id a b (pick a [] (drop (offset_in x.position id) l)) r (pick a (silent (popped r)) (pick b (silent (pick c (leave w time r.pops true true) expired_here)) read_here)).value
-        go true b c s e = record { k = 0; few = omega arith; position = refl; to = refl; looked_at = λ q. absurd (omega (arith, q)); buffered = sym (none_buffered b x routes id r.walk.counts.buffered); counts = λ p. omega arith; expired_counts = λ p. no_more b p; eight = eight; popped_or_ended = inl (refl, refl) }
-        go false true true s e = never s
-        go false true false s e = expired_passed
-        go false false c s e = walked_passed e
+        go : (a b : Bool) → (pick a (silent (popped r)) (pick b (silent (expired x time (expired_over x.shard routes (unread w l) w.counts.expired) w r)) (walked x time (length l) (messages_read x routes time (unread w l) (silent w)) r))).value.walk.number ≡ 0
+            → AnchorPassed x routes id a b (pick a [] (drop (offset_in x.position id) l)) r (pick a (silent (popped r)) (pick b (silent (expired x time (expired_over x.shard routes (unread w l) w.counts.expired) w r)) (walked x time (length l) (messages_read x routes time (unread w l) (silent w)) r))).value
+        go true b e = record { k = 0; few = omega arith; position = refl; to = refl; looked_at = λ q. absurd (omega (arith, q)); buffered = sym (none_buffered b x routes id r.walk.counts.buffered); counts = λ p. omega arith; expired_counts = λ p. no_more b p; eight = eight; popped_or_ended = inl (refl, refl) }
+        go false true e = expired_passed
+        go false false e = walked_passed e
 
   -- an anchor is read from the offset on, with what is above the processed position buffered, or nothing of it is read
   -- or buffered
@@ -446,8 +433,7 @@ module _ (x : Context) (routes : List ℕ) (time : ChainTime) (sound : routes_nu
       let c = looked_counts x id r.walk in
       let P : Outcome RangeRead → Type 0 = λ q. q.value.walk.number ≡ 0 → (ReadFirst x routes (unread w l) w q.value.walk) ⊎ ((q.value.walk.counts.read ≡ r.walk.counts.read) × (q.value.walk.counts.buffered ≡ r.walk.counts.buffered)) in
       pick_both P (ltb id x.position.anchor_id) (silent (popped r)) _ (λ e. inr (refl, refl))
-      (pick_both P (expired_at x.chain_time time x.limit) _ _
-      (pick_both (λ (q : RangeRead). P (silent q)) (stays x.mode w.place.reached) _ _ (λ e. inr (ap (λ (n : ReadCounts). n.read) c, ap (λ (n : ReadCounts). n.buffered) c)) (λ e. inr (ap (λ (n : ReadCounts). n.read) c, ap (λ (n : ReadCounts). n.buffered) c)))
+      (pick_both P (expired_at x.chain_time time x.limit) _ _ (λ e. inr (ap (λ (n : ReadCounts). n.read) c, ap (λ (n : ReadCounts). n.buffered) c))
       (λ e. inl (same (unread w l) w s.value (finished x time (length l) s.value r).walk (finished_counts x time (length l) s.value r) (finished_place x time (length l) s.value r)
       (the_walk_reads_the_first_messages_in_order x routes time (unread w l) (silent w) (finished_number x time (length l) s.value r e)))))
     where
@@ -557,7 +543,7 @@ module _ (x : Context) (routes : List ℕ) (sound : routes_number routes ≡ 0) 
       → Conserved x routes l s.value (anchors_read x routes l s).value
   unfolding anchors_read unread_all front_unread ours_in all_buffered front_buffered all_position all_to front_position front_to expired_ours
   every_message_of_ours_passed_is_counted_as_read_or_expired [] s z e = λ h. record { n = 0; k = 0; pops = omega arith; position = refl; to = refl; expired = λ p. omega arith; buffered = refl; counts = λ p. omega arith }
-  every_message_of_ours_passed_is_counted_as_read_or_expired (a ∷ l) s z e = go (λ y f n. every_message_of_ours_passed_is_counted_as_read_or_expired l (next_read x routes a s) y f n) (stays_in x a.id (record { 0 = a.time })) refl (next_read x routes a s).value.ended refl
+  every_message_of_ours_passed_is_counted_as_read_or_expired (a ∷ l) s z e = go (λ y f n. every_message_of_ours_passed_is_counted_as_read_or_expired l (next_read x routes a s) y f n) (next_read x routes a s).value.ended refl
     where
       t : Outcome RangeRead
       t = next_read x routes a s
@@ -570,26 +556,6 @@ module _ (x : Context) (routes : List ℕ) (sound : routes_number routes ≡ 0) 
 
       old : Bool
       old = expired_at x.chain_time (record { 0 = a.time }) x.limit
-
-      left_there : RangeRead
-      left_there = leave (looked x a.id s.value.walk) (record { 0 = a.time }) s.value.pops true true
-
-      nothing_passed : Conserved x routes (a ∷ l) s.value left_there
-      nothing_passed =
-          let c = looked_counts x a.id s.value.walk in
-          record {
-            n = 0;
-            k = 0;
-            pops = omega arith;
-            position = (looked_place x a.id s.value.walk).0;
-            to = (looked_place x a.id s.value.walk).1;
-            expired = λ p. omega (arith, ap (λ (n : ReadCounts). get_or n.expired p 0) c);
-            buffered = ap (λ (n : ReadCounts). n.buffered) c ∙ sym (none_buffered old x routes a.id s.value.walk.counts.buffered);
-            counts = λ p. omega (arith, ap (λ (n : ReadCounts). passed_in n p) c);
-          }
-
-      is_left : stays_in x a.id (record { 0 = a.time }) ≡ true → t.value ≡ left_there
-      is_left h = ap (λ (q : Outcome RangeRead). q.value) (an_anchor_that_stays_only_ends_the_read x routes a.id (record { 0 = a.time }) a.messages s.value h)
 
       ended_here : AnchorPassed x routes a.id below old u s.value t.value → Conserved x routes (a ∷ l) s.value t.value
       ended_here f = by f.popped_or_ended
@@ -643,13 +609,11 @@ module _ (x : Context) (routes : List ℕ) (sound : routes_number routes ≡ 0) 
           by (inr g) = absurd (let y : ◌≡◌ {A = ℕ} 0 1 = cc in omega arith)
 
       go : (t.value.walk.number ≡ 0 → Eight t.value.walk.counts → (anchors_read x routes l t).value.walk.number ≡ 0 → Conserved x routes l t.value (anchors_read x routes l t).value)
-          → (c : Bool) → stays_in x a.id (record { 0 = a.time }) ≡ c → (b : Bool) → t.value.ended ≡ b → (pick b t (anchors_read x routes l t)).value.walk.number ≡ 0 → Conserved x routes (a ∷ l) s.value (pick b t (anchors_read x routes l t)).value
-      go i true h true d n = rw (is_left h) nothing_passed
-      go i true h false d n = never (sym (ap (λ (q : RangeRead). q.ended) (is_left h)) ∙ d)
-      go i false h true d n = ended_here (anchor_passed x routes (record { 0 = a.time }) sound a.id a.messages s.value e h n)
-      go i false h false d n =
-          let y = going_number x routes (record { 0 = a.time }) a.id a.messages s.value z d in
-          let f = anchor_passed x routes (record { 0 = a.time }) sound a.id a.messages s.value e h y in
+          → (b : Bool) → t.value.ended ≡ b → (pick b t (anchors_read x routes l t)).value.walk.number ≡ 0 → Conserved x routes (a ∷ l) s.value (pick b t (anchors_read x routes l t)).value
+      go i true d n = ended_here (anchor_passed x routes (record { 0 = a.time }) sound a.id a.messages s.value e n)
+      go i false d n =
+          let y = going_number x routes (record { 0 = a.time }) sound a.id a.messages s.value z d in
+          let f = anchor_passed x routes (record { 0 = a.time }) sound a.id a.messages s.value e y in
           going_on f d (i y f.eight n)
 
 -- ---- the read of one range

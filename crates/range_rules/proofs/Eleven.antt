@@ -25,7 +25,7 @@ use Rattle.range_rules.specs.declared.RangeRead.{RangeRead}
 use Rattle.range_rules.specs.declared.ProcessedTo.{ProcessedTo}
 use Rattle.range_rules.specs.declared.Verdict.{Verdict}
 use Rattle.range_rules.specs.declared.Verdict.TheVariants.{Keep, Buffer, Refuse}
-use Rattle.range_rules.specs.Rules.{Outcome, silent, followed, key_at, end_reached, advanced, ends, full, stopped, judge, no_processed, refused_with, read_one, buffer_one, after, verdict_on, our_read, message_read, messages_read, popped, offset_in, look_key, looked, expired_over, expired, stays, leave, after_pop, is_whole, finished, unread, walked, anchor_read, entry_len}
+use Rattle.range_rules.specs.Rules.{Outcome, silent, followed, key_at, end_reached, advanced, ends, full, stopped, judge, no_processed, refused_with, read_one, buffer_one, after, verdict_on, our_read, message_read, messages_read, popped, offset_in, look_key, looked, expired_over, expired, leave, after_pop, is_whole, finished, unread, walked, anchor_read, entry_len}
 use Rattle.range_rules.proofs.Counts.{stopped_full}
 use Rattle.range_rules.proofs.Walks.{walk_all}
 use Rattle.range_rules.proofs.WalkEnd.{past_the_count_no_message_is_walked}
@@ -188,14 +188,13 @@ module _ (x : Context) (routes : List ℕ) (id : ℕ) (time : ChainTime) (l : Li
 
   pub question_11_refuses_only_a_walk_that_does_not_move_on : (anchor_read x routes id time l r).value.walk.number ≡ 11 → NotMovingOn x id time l r
   unfolding anchor_read expired
-  question_11_refuses_only_a_walk_that_does_not_move_on = go (ltb id x.position.anchor_id) (expired_at x.chain_time time x.limit) (stays x.mode here.place.reached) refl
+  question_11_refuses_only_a_walk_that_does_not_move_on = go (ltb id x.position.anchor_id) (expired_at x.chain_time time x.limit) refl
     where
-      go : (a b c : Bool) → expired_at x.chain_time time x.limit ≡ b
-          → (pick a (silent (popped r)) (pick b (silent (pick c (leave here time r.pops true true) (expired x time (expired_over x.shard routes (unread here l) here.counts.expired) here r))) (walked x time (length l) (messages_read x routes time (unread here l) (silent here)) r))).value.walk.number ≡ 11 → NotMovingOn x id time l r
-      go true b c u e = absurd (omega arith)
-      go false true true u e = let n = number_here in absurd (omega arith)
-      go false true false u e = let n = number_here in absurd (omega arith)
-      go false false c u e = not_moving u e
+      go : (a b : Bool) → expired_at x.chain_time time x.limit ≡ b
+          → (pick a (silent (popped r)) (pick b (silent (expired x time (expired_over x.shard routes (unread here l) here.counts.expired) here r)) (walked x time (length l) (messages_read x routes time (unread here l) (silent here)) r))).value.walk.number ≡ 11 → NotMovingOn x id time l r
+      go true b u e = absurd (omega arith)
+      go false true u e = let n = number_here in absurd (omega arith)
+      go false false u e = not_moving u e
 
   pub a_walk_that_does_not_move_on_is_refused_by_question_11 : NotMovingOn x id time l r → (anchor_read x routes id time l r).value.walk.number ≡ 11
   unfolding anchor_read

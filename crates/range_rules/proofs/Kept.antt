@@ -27,7 +27,7 @@ use Rattle.range_rules.specs.declared.ProcessedTo.{ProcessedTo}
 use Rattle.range_rules.specs.declared.ExternalsRangeReaderState.{ExternalsRangeReaderState}
 use Rattle.range_rules.specs.declared.Verdict.{Verdict}
 use Rattle.range_rules.specs.declared.Verdict.TheVariants.{Keep, Buffer, Refuse}
-use Rattle.range_rules.specs.Rules.{Outcome, silent, followed, advanced, ends, full, stopped, no_processed, judge, refused_with, read_one, entry_len, buffered, buffer_one, after, verdict_on, our_read, message_read, messages_read, looked, expired, is_whole, finished, unread, anchor_read, next_read, anchors_read, six_steps, stays}
+use Rattle.range_rules.specs.Rules.{Outcome, silent, followed, advanced, ends, full, stopped, no_processed, judge, refused_with, read_one, entry_len, buffered, buffer_one, after, verdict_on, our_read, message_read, messages_read, looked, expired, is_whole, finished, unread, anchor_read, next_read, anchors_read, six_steps}
 use Rattle.range_rules.proofs.Counts.{stopped_full, room_in}
 
 judged : (Q : Verdict → Type 0) (processed : ProcessedTo) (partition : ExternalsPartitionRangeReaderState) (key : ExternalKey) (room : Bool)
@@ -87,7 +87,7 @@ module _ (x : Context) (routes : List ℕ) (P : ℕ → Buffers → Type 0)
       let Q : Outcome RangeRead → Type 0 = λ s. Holds s.value.walk in
       let w = looked x id r.walk in
       pick_both Q (ltb id x.position.anchor_id) _ _ h
-      (pick_both Q (expired_at x.chain_time time x.limit) _ _ (pick_both (λ (q : RangeRead). Holds q.walk) (stays x.mode w.place.reached) _ _ h h)
+      (pick_both Q (expired_at x.chain_time time x.limit) _ _ h
       (finished_kept time (length l) (messages_read x routes time (unread w l) (silent w)).value r (messages_kept time (unread w l) (silent w) h)))
 
   anchors_kept : (l : List Anchor) (s : Outcome RangeRead) → Holds s.value.walk → Holds (anchors_read x routes l s).value.walk

@@ -7,4 +7,3 @@ pub mod Conservation
 pub mod Eleven
 pub mod Refusals
 pub mod Kept
-pub mod Strict

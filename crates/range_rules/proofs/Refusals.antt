@@ -26,7 +26,7 @@ use Rattle.range_rules.specs.declared.RangeRead.{RangeRead}
 use Rattle.range_rules.specs.declared.ProcessedTo.{ProcessedTo}
 use Rattle.range_rules.specs.declared.Verdict.{Verdict}
 use Rattle.range_rules.specs.declared.Verdict.TheVariants.{Keep, Buffer, Refuse}
-use Rattle.range_rules.specs.Rules.{Outcome, silent, followed, advanced, ends, full, stopped, no_processed, judge, refused_with, read_one, one_put, buffered, buffer_one, after, verdict_on, our_read, message_read, messages_read, popped, offset_in, looked, expired_over, expired, leave, after_pop, is_whole, finished, unread, anchor_read, next_read, anchors_read, entry_len, stays}
+use Rattle.range_rules.specs.Rules.{Outcome, silent, followed, advanced, ends, full, stopped, no_processed, judge, refused_with, read_one, one_put, buffered, buffer_one, after, verdict_on, our_read, message_read, messages_read, popped, offset_in, looked, expired_over, expired, leave, after_pop, is_whole, finished, unread, anchor_read, next_read, anchors_read, entry_len}
 use Rattle.range_rules.specs.Refusals.{is_open, route_open, all_open, starts_within, all_fit, cannot_refuse}
 
 -- ---- a message's partition is open
@@ -155,11 +155,10 @@ module _ (x : Context) (routes : List ℕ) where
     unfolding anchor_read
     anchor_free i h =
         let w = looked x id r.walk in
-        let g = free_less (length l + n) n w (omega arith) (looked_free (length l + n) h) in
         let P : Outcome RangeRead → Type 0 = λ s. Free x routes n s.value.walk in
         pick_both P (ltb id x.position.anchor_id) (silent (popped r)) _ (free_less (length l + n) n r.walk (omega arith) h)
         (pick_both P (expired_at x.chain_time time x.limit) _ _
-        (pick_both (λ (q : RangeRead). Free x routes n q.walk) (stays x.mode w.place.reached) _ _ g (expired_free (expired_over x.shard routes (unread w l) w.counts.expired) n w g))
+        (expired_free (expired_over x.shard routes (unread w l) w.counts.expired) n w (free_less (length l + n) n w (omega arith) (looked_free (length l + n) h)))
         (walked_free i h))
 
   anchors_free : (l : List Anchor) (s : Outcome RangeRead) → every (starts_within x.position) (map row_of l) ≡ true → Free x routes (total (map row_of l)) s.value.walk

@@ -1,5 +1,4 @@
 pub mod Rules
 pub mod WalkEnd
-pub mod Strict
 pub mod Bounds
 pub mod Refusals

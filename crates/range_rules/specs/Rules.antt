@@ -22,7 +22,7 @@ use Rattle.range_rules.specs.declared.ProcessedTo.{ProcessedTo}
 use Rattle.range_rules.specs.declared.ReadCounts.{ReadCounts}
 use Rattle.range_rules.specs.declared.ExternalsRangeReaderState.{ExternalsRangeReaderState}
 use Rattle.range_rules.specs.declared.ReadNextExternalsMode.{ReadNextExternalsMode}
-use Rattle.range_rules.specs.declared.ReadNextExternalsMode.TheVariants.{ToTheEnd, ToPreviuosReadTo, ToPreviuosReadToStrict}
+use Rattle.range_rules.specs.declared.ReadNextExternalsMode.TheVariants.{ToTheEnd, ToPreviuosReadTo}
 use Rattle.range_rules.specs.declared.LastChainTime.{LastChainTime}
 use Rattle.range_rules.specs.declared.LastChainTime.TheVariants.{Nothing, Time}
 use Rattle.range_rules.specs.declared.Verdict.{Verdict}
@@ -72,11 +72,10 @@ unfoldable pub advanced : Context → Walk → Walk
 advanced x w = with_place (moved_to x.saved_end (next_key w.place.key) w.place) w
 
 -- ---- step 5
--- in `ToPreviuosReadTo`, strict or not, with the saved end reached
+-- in `ToPreviuosReadTo` with the saved end reached
 abbrev pub ends : ReadNextExternalsMode → Bool → Bool
 ends ToTheEnd reached = false
 ends ToPreviuosReadTo reached = reached
-ends ToPreviuosReadToStrict reached = reached
 
 -- Document 02, ticket 7: "Full now means 0 free."
 abbrev pub full : Buffers → Bool
@@ -226,21 +225,10 @@ unread w l = drop w.place.key.msgs_offset l
 abbrev pub walked : Context → ChainTime → ℕ → Outcome Walk → RangeRead → Outcome RangeRead
 walked x time count s r = record { value = finished x time count s.value r; entries = s.entries }
 
--- Document 02, ticket 6: "In strict, with `ToPreviuosReadTo`, an expired anchor at which the saved end is reached isn't
--- taken."
-abbrev pub stays : ReadNextExternalsMode → Bool → Bool
-stays ToTheEnd reached = false
-stays ToPreviuosReadTo reached = false
-stays ToPreviuosReadToStrict reached = reached
-
--- an expired anchor, of whose messages l are unread: "The range is then fully read and the anchor stays"; else step 4
-abbrev pub expired_read : Context → List ℕ → ChainTime → List (List ℕ) → Walk → RangeRead → RangeRead
-expired_read x routes time l w r = pick (stays x.mode w.place.reached) (leave w time r.pops true true) (expired x time (expired_over x.shard routes l w.counts.expired) w r)
-
 abbrev pub looked_read : Context → List ℕ → ChainTime → List (List ℕ) → Walk → RangeRead → Outcome RangeRead
 looked_read x routes time l w r =
     pick (expired_at x.chain_time time x.limit)
-    (silent (expired_read x routes time (unread w l) w r))
+    (silent (expired x time (expired_over x.shard routes (unread w l) w.counts.expired) w r))
     (walked x time (length l) (messages_read x routes time (unread w l) (silent w)) r)
 
 -- step 2 where the id is below the entry position's, else steps 3 to 6

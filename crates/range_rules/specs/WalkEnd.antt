@@ -4,7 +4,7 @@ use Rattle.std.specs.Prelude.{ℕ, ◌&&◌, ltb, leb, eqb}
 use Rattle.rows.specs.Rows.{pick}
 use Rattle.ext_types.specs.declared.ExternalKey.{ExternalKey}
 use Rattle.range_rules.specs.declared.ReadNextExternalsMode.{ReadNextExternalsMode}
-use Rattle.range_rules.specs.declared.ReadNextExternalsMode.TheVariants.{ToTheEnd, ToPreviuosReadTo, ToPreviuosReadToStrict}
+use Rattle.range_rules.specs.declared.ReadNextExternalsMode.TheVariants.{ToTheEnd, ToPreviuosReadTo}
 
 -- from a key on: the offset at which the saved end is reached, but `last` where that is not before it
 abbrev pub saved_end_before : ExternalKey → ExternalKey → ℕ → ℕ
@@ -15,4 +15,3 @@ saved_end_before end key last =
 abbrev pub walk_end : ReadNextExternalsMode → ExternalKey → ExternalKey → ℕ → ℕ
 walk_end ToTheEnd end key last = last
 walk_end ToPreviuosReadTo end key last = saved_end_before end key last
-walk_end ToPreviuosReadToStrict end key last = saved_end_before end key last

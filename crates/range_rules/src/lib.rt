@@ -22,12 +22,10 @@ pub struct ExternalsRangeReaderState {
     pub by_partitions: [ExternalsPartitionRangeReaderState; 8],
 }
 
-// The last is document 02's strict read (ticket 6); the Rust has the other two.
 #[derive(Drop)]
 pub enum ReadNextExternalsMode {
     ToTheEnd,
     ToPreviuosReadTo,
-    ToPreviuosReadToStrict,
 }
 
 // A partition's processed position, if it has one.

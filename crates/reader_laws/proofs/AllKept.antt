@@ -100,19 +100,19 @@ module _ (tables area : List ℕ) (t : AnchorsCacheTransaction) (routes : List �
       (λ z. let k = the_steps_of_a_read_keep_the_counts tables area before x.shard routes x.limits x.processed x.params.externals_expire_timeout mode range eight records z room in
       record { in_place = record { seqno = refl; counts = k.0 }; eight = k.1 })
 
-module _ (tables area : List ℕ) (t : AnchorsCacheTransaction) (routes : List ℕ) (r : ExternalsReader) (mode : GetNextMessageGroupMode) (strict : Bool) (out : List ℕ) where
+module _ (tables area : List ℕ) (t : AnchorsCacheTransaction) (routes : List ℕ) (r : ExternalsReader) (mode : GetNextMessageGroupMode) (out : List ℕ) where
   abbrev state : ExternalsReaderState
   state = r.reader_state
 
   abbrev pub fixed : Fixed
-  fixed = fixed_of r mode strict (imported_in tables t.cache) (length out)
+  fixed = fixed_of r mode (imported_in tables t.cache) (length out)
 
   abbrev all : Outcome RangesRead
-  all = all_ranges_read tables area t routes r mode strict (length out)
+  all = all_ranges_read tables area t routes r mode (length out)
 
   -- nothing is done, a refusal, or what the ranges' turns came to
   pub answered : (P : ReadAllResult → Type 0) → (asked_of_read tables area t routes r ≡ 0 → r.all_ranges_fully_read ≡ true → P (unchanged 0 r t out)) → ((asked_of_read tables area t routes r ≡ 0 → ⊥) → P (unchanged (asked_of_read tables area t routes r) r t out))
-      → (asked_of_read tables area t routes r ≡ 0 → r.all_ranges_fully_read ≡ false → P (all_result tables area t r all out)) → P (read_all_call tables area t routes r mode strict out)
+      → (asked_of_read tables area t routes r ≡ 0 → r.all_ranges_fully_read ≡ false → P (all_result tables area t r all out)) → P (read_all_call tables area t routes r mode out)
   unfolding read_all_call
   answered P idle refused done = go (eqb n 0) refl r.all_ranges_fully_read refl
     where
@@ -125,8 +125,8 @@ module _ (tables area : List ℕ) (t : AnchorsCacheTransaction) (routes : List �
       go false e c m = refused (eqb-false n 0 e)
 
   -- questions 4 and 5: the open-ranges limit and the ranges are within 16, whatever the output's length
-  pub begun : asked_of_read tables area t routes r ≡ 0 → r.all_ranges_fully_read ≡ false → Start (fixed_of r mode strict (imported_in tables t.cache) 0) (at_entry state) []
-  begun z m = call_start tables area t routes r mode strict [] (asked_of_read tables area t routes r) refl z m (fixed_of r mode strict (imported_in tables t.cache) 0) refl (omega arith)
+  pub begun : asked_of_read tables area t routes r ≡ 0 → r.all_ranges_fully_read ≡ false → Start (fixed_of r mode (imported_in tables t.cache) 0) (at_entry state) []
+  begun z m = call_start tables area t routes r mode [] (asked_of_read tables area t routes r) refl z m (fixed_of r mode (imported_in tables t.cache) 0) refl (omega arith)
 
   all_sound : Shaped r → state_number state ≡ 0 → asked_of_read tables area t routes r ≡ 0 → r.all_ranges_fully_read ≡ false → Sound all.value
   unfolding all_ranges_read
@@ -134,7 +134,7 @@ module _ (tables area : List ℕ) (t : AnchorsCacheTransaction) (routes : List �
       let p = sound_parts state five in
       a_read_of_all_keeps_question_5 (window_read tables area t routes fixed) fixed (begun z m).limit h.partitions (λ pops mode range room. window_left tables area t routes fixed pops mode range room h.limits) (at_entry state) (record { few = p.0; sound = p.1; eight = h.ranges })
 
-  pub a_read_of_all_keeps_question_5_of_its_reader : Shaped r → state_number r.reader_state ≡ 0 → state_number (read_all_call tables area t routes r mode strict out).answer.reader.reader_state ≡ 0
+  pub a_read_of_all_keeps_question_5_of_its_reader : Shaped r → state_number r.reader_state ≡ 0 → state_number (read_all_call tables area t routes r mode out).answer.reader.reader_state ≡ 0
   unfolding state_number
   a_read_of_all_keeps_question_5_of_its_reader h five =
       let P : ReadAllResult → Type 0 = λ d. state_number d.answer.reader.reader_state ≡ 0 in
@@ -144,7 +144,7 @@ module _ (tables area : List ℕ) (t : AnchorsCacheTransaction) (routes : List �
   -- ---- the mark
   -- of the sixteen slots that a reader's type gives: "else the mark is set"
   pub the_mark_is_set_where_it_was_or_every_range_is_fully_read : length r.reader_state.ranges ≡ max_ranges
-      → (let a = (read_all_call tables area t routes r mode strict out).answer in a.number ≡ 0 → a.reader.all_ranges_fully_read ≡ (r.all_ranges_fully_read || all_fully_read (held_ranges a.reader.reader_state)))
+      → (let a = (read_all_call tables area t routes r mode out).answer in a.number ≡ 0 → a.reader.all_ranges_fully_read ≡ (r.all_ranges_fully_read || all_fully_read (held_ranges a.reader.reader_state)))
   unfolding all_ranges_read
   the_mark_is_set_where_it_was_or_every_range_is_fully_read sixteen = answered P (λ z m y. m ∙ sym (or_here _ _ m)) (λ n y. absurd (n y)) (λ z m. go z m (eqb all.value.so_far.number 0) refl)
     where
@@ -169,7 +169,7 @@ module _ (tables area : List ℕ) (t : AnchorsCacheTransaction) (routes : List �
       go z m false e y = absurd (eqb-false q.so_far.number 0 e y)
 
   -- ---- the sums
-  pub each_sum_of_a_read_of_all_is_at_most_1024_for_each_of_16_ranges : AtMost max_sum (read_all_call tables area t routes r mode strict out).answer.counts
+  pub each_sum_of_a_read_of_all_is_at_most_1024_for_each_of_16_ranges : AtMost max_sum (read_all_call tables area t routes r mode out).answer.counts
   unfolding all_ranges_read
   each_sum_of_a_read_of_all_is_at_most_1024_for_each_of_16_ranges =
       let P : ReadAllResult → Type 0 = λ d. AtMost max_sum d.answer.counts in
@@ -212,14 +212,14 @@ unasked_number routes x v pops mode range room =
 
 -- where questions 1 to 5 and 9 are answered "yes" at entry, they are in every range after any pops
 pub inside_a_read_of_all_only_10_to_14_refuse : (tables area : List ℕ) (t : AnchorsCacheTransaction) (h : HandedAll) → asked_of_read tables area t h.routes h.reader ≡ 0
-    → DoneOr10To14 (read_all_call tables area t h.routes h.reader h.mode h.strict h.out).answer.number
+    → DoneOr10To14 (read_all_call tables area t h.routes h.reader h.mode h.out).answer.number
 inside_a_read_of_all_only_10_to_14_refuse tables area t h z =
     let P : ReadAllResult → Type 0 = λ d. DoneOr10To14 d.answer.number in
-    answered tables area t h.routes h.reader h.mode h.strict h.out P (λ y m. inl refl) (λ n. absurd (n z))
+    answered tables area t h.routes h.reader h.mode h.out P (λ y m. inl refl) (λ n. absurd (n z))
     (λ y m. pick_both P (eqb whole.value.so_far.number 0) _ _ (inl refl) number)
   where
     whole : Outcome RangesRead
-    whole = all_ranges_read tables area t h.routes h.reader h.mode h.strict (length h.out)
+    whole = all_ranges_read tables area t h.routes h.reader h.mode (length h.out)
 
     v : Cache
     v = view tables area t.cache

@@ -27,7 +27,7 @@ use Rattle.reader_laws.proofs.Conservation.{Traced, every_message_of_ours_passed
 
 module _ (tables area : List ℕ) (t : AnchorsCacheTransaction) (h : HandedAll) where
   abbrev read : ReadAllResult
-  read = read_all_call tables area t h.routes h.reader h.mode h.strict h.out
+  read = read_all_call tables area t h.routes h.reader h.mode h.out
 
   abbrev now : Cache
   now = view tables area t.cache
@@ -44,14 +44,14 @@ module _ (tables area : List ℕ) (t : AnchorsCacheTransaction) (h : HandedAll) 
   asked = asked_of_read tables area t h.routes h.reader
 
   abbrev ranges : RangesRead
-  ranges = (all_ranges_read tables area t h.routes h.reader h.mode h.strict (length h.out)).value
+  ranges = (all_ranges_read tables area t h.routes h.reader h.mode (length h.out)).value
 
   asked_zero : read.answer.number ≡ 0 → asked ≡ 0
   unfolding read_all_call
   asked_zero = go (eqb asked 0) refl
     where
       go : (b : Bool) → eqb asked 0 ≡ b
-          → (pick b (pick h.reader.all_ranges_fully_read (unchanged 0 h.reader t h.out) (all_result tables area t h.reader (all_ranges_read tables area t h.routes h.reader h.mode h.strict (length h.out)) h.out)) (unchanged asked h.reader t h.out)).answer.number ≡ 0 → asked ≡ 0
+          → (pick b (pick h.reader.all_ranges_fully_read (unchanged 0 h.reader t h.out) (all_result tables area t h.reader (all_ranges_read tables area t h.routes h.reader h.mode (length h.out)) h.out)) (unchanged asked h.reader t h.out)).answer.number ≡ 0 → asked ≡ 0
       go true e z = eqb-true asked 0 e
       go false e z = z
 
@@ -82,14 +82,14 @@ module _ (tables area : List ℕ) (t : AnchorsCacheTransaction) (h : HandedAll) 
       record { open_now = a; big = f.0; cache_ok = b.0; undo_ok = sym (pick_yes t.active _ _ a) ∙ b.1; routes_ok = p3.0; accepted = p5.0 }
 
   module _ (z : read.answer.number ≡ 0) (unread : h.reader.all_ranges_fully_read ≡ false) where
-    result : read ≡ all_result tables area t h.reader (all_ranges_read tables area t h.routes h.reader h.mode h.strict (length h.out)) h.out
+    result : read ≡ all_result tables area t h.reader (all_ranges_read tables area t h.routes h.reader h.mode (length h.out)) h.out
     unfolding read_all_call
     result = pick_yes _ _ _ (eq-eqb asked 0 (asked_zero z)) ∙ pick_no _ _ _ unread
 
     ranges_zero : ranges.so_far.number ≡ 0
     ranges_zero = go (eqb ranges.so_far.number 0) refl (ap (λ (d : ReadAllResult). d.answer.number) (sym result) ∙ z)
       where
-        go : (b : Bool) → eqb ranges.so_far.number 0 ≡ b → (all_result tables area t h.reader (all_ranges_read tables area t h.routes h.reader h.mode h.strict (length h.out)) h.out).answer.number ≡ 0 → ranges.so_far.number ≡ 0
+        go : (b : Bool) → eqb ranges.so_far.number 0 ≡ b → (all_result tables area t h.reader (all_ranges_read tables area t h.routes h.reader h.mode (length h.out)) h.out).answer.number ≡ 0 → ranges.so_far.number ≡ 0
         go true e y = eqb-true ranges.so_far.number 0 e
         go false e y = rw e at y
 

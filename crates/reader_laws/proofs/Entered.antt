@@ -124,7 +124,7 @@ module _ (tables area : List ℕ) (t : AnchorsCacheTransaction) (active : t.acti
         active)
 
     -- ---- all ranges
-    pub all_same : book_asked h area v w ≡ 0 → all_ranges_read tables area t h.routes h.reader h.mode h.strict (length h.out) ≡ book_all_read h v
+    pub all_same : book_asked h area v w ≡ 0 → all_ranges_read tables area t h.routes h.reader h.mode (length h.out) ≡ book_all_read h v
     unfolding all_ranges_read book_all_read book_asked settled_number settings_number
     all_same z =
         let p2 = first_zero _ _ (first_zero _ _ z).1 in
@@ -133,21 +133,21 @@ module _ (tables area : List ℕ) (t : AnchorsCacheTransaction) (active : t.acti
         let limits = (first_zero _ _ (first_zero _ _ p4.0).0).0 in
         let x = book_fixed h v in
         ap
-        (λ (i : Imported). let y = fixed_of h.reader h.mode h.strict i (length h.out) in ranges_read (window_read tables area t h.routes y) y (at_entry h.reader.reader_state))
+        (λ (i : Imported). let y = fixed_of h.reader h.mode i (length h.out) in ranges_read (window_read tables area t h.routes y) y (at_entry h.reader.reader_state))
         (the_last_imported_entry_is_the_history's_last tables area t.cache)
         ∙ two_ways_to_read_a_range_that_agree_read_all_alike (window_read tables area t h.routes x) (book_range h.routes x v) x (a_range_is_read_as_in_the_book h.routes x p2.0 p3.0 limits)
         (at_entry h.reader.reader_state)
 
     -- number, counts, reader, transaction and output bytes: the contract's answer with the book's questions and the
     -- book's read
-    pub the_whole_answer_is_the_book's : read_all_call tables area t h.routes h.reader h.mode h.strict h.out
+    pub the_whole_answer_is_the_book's : read_all_call tables area t h.routes h.reader h.mode h.out
         ≡ pick (eqb (book_asked h area v w) 0)
         (pick h.reader.all_ranges_fully_read (unchanged 0 h.reader t h.out) (all_result tables area t h.reader (book_all_read h v) h.out))
         (unchanged (book_asked h area v w) h.reader t h.out)
     unfolding read_all_call
     the_whole_answer_is_the_book's = go (book_asked h area v w) refl
       where
-        go : (k : ℕ) → book_asked h area v w ≡ k → read_all_call tables area t h.routes h.reader h.mode h.strict h.out
+        go : (k : ℕ) → book_asked h area v w ≡ k → read_all_call tables area t h.routes h.reader h.mode h.out
             ≡ pick (eqb (book_asked h area v w) 0)
             (pick h.reader.all_ranges_fully_read (unchanged 0 h.reader t h.out) (all_result tables area t h.reader (book_all_read h v) h.out))
             (unchanged (book_asked h area v w) h.reader t h.out)

@@ -69,7 +69,7 @@ a_read_of_one_range_answers_of_its_cache h tables area t = go (first_no (asked_n
 
 pub a_read_of_all_ranges_answers_of_its_cache : (h : HandedAll) → OfItsCache (reading (book_all_number h) (λ area present. book_all_pops h present) (read_all_on_window h)) (all_reply h)
 unfolding read_all_on_window
-a_read_of_all_ranges_answers_of_its_cache h tables area t = answered tables area t h.routes h.reader h.mode h.strict h.out P idle refused done
+a_read_of_all_ranges_answers_of_its_cache h tables area t = answered tables area t h.routes h.reader h.mode h.out P idle refused done
   where
     v : Cache
     v = view tables area t.cache
@@ -91,7 +91,7 @@ a_read_of_all_ranges_answers_of_its_cache h tables area t = answered tables area
     idle z read = sym (pick_yes _ _ _ read)
 
     -- what the ranges' turns came to on the window they came to on the cache
-    done : asked ≡ 0 → h.reader.all_ranges_fully_read ≡ false → P (all_result tables area t h.reader (all_ranges_read tables area t h.routes h.reader h.mode h.strict (length h.out)) h.out)
+    done : asked ≡ 0 → h.reader.all_ranges_fully_read ≡ false → P (all_result tables area t h.reader (all_ranges_read tables area t h.routes h.reader h.mode (length h.out)) h.out)
     done z unread =
         let a = answered_yes tables area t h z in
         let e = all_same tables area t a.open_now a.big a.cache_ok a.undo_ok h (sym (asked_same tables area t a.open_now a.big a.cache_ok a.undo_ok h) ∙ z) in

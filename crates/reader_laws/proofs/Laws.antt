@@ -47,13 +47,13 @@ after_yes [] k z = first_alone k
 after_yes (zero ∷ l) k z = after_yes l k z
 after_yes (suc n ∷ l) k z = absurd (omega arith)
 
-module _ (tables area : List ℕ) (t : AnchorsCacheTransaction) (routes : List ℕ) (r : ExternalsReader) (mode : GetNextMessageGroupMode) (strict : Bool) (out : List ℕ) where
+module _ (tables area : List ℕ) (t : AnchorsCacheTransaction) (routes : List ℕ) (r : ExternalsReader) (mode : GetNextMessageGroupMode) (out : List ℕ) where
   abbrev ranges_read_lem : Outcome RangesRead
-  ranges_read_lem = all_ranges_read tables area t routes r mode strict (length out)
+  ranges_read_lem = all_ranges_read tables area t routes r mode (length out)
 
   -- it gives only the number: counts and used bytes are 0; reader, transaction and output are as handed in
-  pub a_refused_read_of_all_changes_nothing : ((read_all_call tables area t routes r mode strict out).answer.number ≡ 0 → ⊥)
-      → read_all_call tables area t routes r mode strict out ≡ unchanged (read_all_call tables area t routes r mode strict out).answer.number r t out
+  pub a_refused_read_of_all_changes_nothing : ((read_all_call tables area t routes r mode out).answer.number ≡ 0 → ⊥)
+      → read_all_call tables area t routes r mode out ≡ unchanged (read_all_call tables area t routes r mode out).answer.number r t out
   unfolding read_all_call
   a_refused_read_of_all_changes_nothing =
       let P : ReadAllResult → Type 0 = λ d. (d.answer.number ≡ 0 → ⊥) → d ≡ unchanged d.answer.number r t out in
@@ -65,7 +65,7 @@ module _ (tables area : List ℕ) (t : AnchorsCacheTransaction) (routes : List �
       → let a = (unchanged number r t out).answer in (a.used ≡ 0) × (get_or a.counts.read p 0 ≡ 0) × (get_or a.counts.expired p 0 ≡ 0) × (get_or a.counts.buffered p 0 ≡ 0)
   a_read_of_all_that_changes_nothing_tells_no_bytes_and_no_counts number p = let z = zeros 8 p 0 in (refl, omega (arith, z), omega (arith, z), omega (arith, z))
 
-  pub once_all_ranges_are_read_only_the_questions_are_asked : r.all_ranges_fully_read ≡ true → read_all_call tables area t routes r mode strict out ≡ unchanged (asked_of_read tables area t routes r) r t out
+  pub once_all_ranges_are_read_only_the_questions_are_asked : r.all_ranges_fully_read ≡ true → read_all_call tables area t routes r mode out ≡ unchanged (asked_of_read tables area t routes r) r t out
   unfolding read_all_call
   once_all_ranges_are_read_only_the_questions_are_asked e =
       ap (λ (b : Bool). pick (eqb (asked_of_read tables area t routes r) 0) (pick b (unchanged 0 r t out) (all_result tables area t r ranges_read_lem out)) (unchanged (asked_of_read tables area t routes r) r t out)) e
@@ -78,14 +78,14 @@ module _ (tables area : List ℕ) (t : AnchorsCacheTransaction) (routes : List �
   -- "Nothing is done" comes after questions 1 to 5 and 9
   pub the_questions_come_before_nothing_is_done : r.all_ranges_fully_read ≡ true → t.active ≡ false
       → first_no (ask 1 (leb area_bytes (length area)) 0 ∷ shard_number r.for_shard_id ∷ routes_number routes ∷ settled_number r ∷ refusal (length area) tables t ∷ []) ≡ 0
-      → (read_all_call tables area t routes r mode strict out).answer.number ≡ 9
+      → (read_all_call tables area t routes r mode out).answer.number ≡ 9
   unfolding asked_of_read
   the_questions_come_before_nothing_is_done e closed z =
       let l = ask 1 (leb area_bytes (length area)) 0 ∷ shard_number r.for_shard_id ∷ routes_number routes ∷ settled_number r ∷ refusal (length area) tables t ∷ [] in
       ap (λ (d : ReadAllResult). d.answer.number) (once_all_ranges_are_read_only_the_questions_are_asked e)
       ∙ (ap (λ (b : Bool). first_no (l ++ (ask 9 b 0 ∷ []))) closed ∙ after_yes l 9 z)
 
-  pub the_read_of_all_changes_the_cache_only_by_pops : (n : ℕ) × ((read_all_call tables area t routes r mode strict out).answer.state ≡ with_cache t (popped_times n tables t.cache))
+  pub the_read_of_all_changes_the_cache_only_by_pops : (n : ℕ) × ((read_all_call tables area t routes r mode out).answer.state ≡ with_cache t (popped_times n tables t.cache))
   unfolding read_all_call pops_call answer popped_times
   the_read_of_all_changes_the_cache_only_by_pops =
       let P : ReadAllResult → Type 0 = λ d. (n : ℕ) × (d.answer.state ≡ with_cache t (popped_times n tables t.cache)) in
@@ -124,19 +124,19 @@ module _ (tables area tables' area' : List ℕ) (t : AnchorsCacheTransaction) (g
   unfolding asked_of_read
   asked_same r = rw (g.broad, (free_bytes tables area tables' area' t g (length area')).check)
 
-  all_same : (r : ExternalsReader) (mode : GetNextMessageGroupMode) (strict : Bool) (room : ℕ) → all_ranges_read tables area t routes r mode strict room ≡ all_ranges_read tables' area' t routes r mode strict room
+  all_same : (r : ExternalsReader) (mode : GetNextMessageGroupMode) (room : ℕ) → all_ranges_read tables area t routes r mode room ≡ all_ranges_read tables' area' t routes r mode room
   unfolding all_ranges_read view
-  all_same r mode strict room =
-      let x = fixed_of r mode strict (imported_in tables' t.cache) room in
-      ap (λ (v : Cache). let y = fixed_of r mode strict (imported_of v) room in ranges_read (window_read tables area t routes y) y (at_entry r.reader_state)) g.now
+  all_same r mode room =
+      let x = fixed_of r mode (imported_in tables' t.cache) room in
+      ap (λ (v : Cache). let y = fixed_of r mode (imported_of v) room in ranges_read (window_read tables area t routes y) y (at_entry r.reader_state)) g.now
       ∙ two_ways_to_read_a_range_that_agree_read_all_alike (window_read tables area t routes x) (window_read tables' area' t routes x) x (range_same x) (at_entry r.reader_state)
 
   -- two tables and two areas that agree on what is cached or restorable by a rollback give the same number, answer,
   -- reader, transaction and output bytes
-  pub no_read_of_all_depends_on_free_bytes : (r : ExternalsReader) (mode : GetNextMessageGroupMode) (strict : Bool) (out : List ℕ) → read_all_call tables area t routes r mode strict out ≡ read_all_call tables' area' t routes r mode strict out
+  pub no_read_of_all_depends_on_free_bytes : (r : ExternalsReader) (mode : GetNextMessageGroupMode) (out : List ℕ) → read_all_call tables area t routes r mode out ≡ read_all_call tables' area' t routes r mode out
   unfolding read_all_call
-  no_read_of_all_depends_on_free_bytes r mode strict out =
-      rw (asked_same r, all_same r mode strict (length out), g.broad, (free_bytes tables area tables' area' t g (length area')).pops (all_ranges_read tables' area' t routes r mode strict (length out)).value.so_far.pops)
+  no_read_of_all_depends_on_free_bytes r mode out =
+      rw (asked_same r, all_same r mode (length out), g.broad, (free_bytes tables area tables' area' t g (length area')).pops (all_ranges_read tables' area' t routes r mode (length out)).value.so_far.pops)
 
 -- ---- question 5 of the ranges
 -- one range's read that does not ask it

@@ -10,4 +10,3 @@ pub mod ReaderKept
 pub mod OneReader
 pub mod Masterchain
 pub mod Reported
-pub mod Strict

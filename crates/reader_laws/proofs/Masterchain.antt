@@ -50,10 +50,10 @@ module _ (s : ShardIdent) (masterchain : s.workchain ≡ negsuc 0) (part : s.pre
     unfolding new_call reader_number first_no
     no_reader_is_made_for_a_part_of_the_masterchain = rw (for, two)
 
-    pub no_read_of_all_is_made_for_a_part_of_the_masterchain : (tables area : List ℕ) (t : AnchorsCacheTransaction) (routes : List ℕ) (mode : GetNextMessageGroupMode) (strict : Bool) (out : List ℕ)
-        → read_all_call tables area t routes r mode strict out ≡ unchanged (one_or_two area) r t out
+    pub no_read_of_all_is_made_for_a_part_of_the_masterchain : (tables area : List ℕ) (t : AnchorsCacheTransaction) (routes : List ℕ) (mode : GetNextMessageGroupMode) (out : List ℕ)
+        → read_all_call tables area t routes r mode out ≡ unchanged (one_or_two area) r t out
     unfolding read_all_call asked_of_read
-    no_read_of_all_is_made_for_a_part_of_the_masterchain tables area t routes mode strict out =
+    no_read_of_all_is_made_for_a_part_of_the_masterchain tables area t routes mode out =
         let asked : asked_of_read tables area t routes r ≡ one_or_two area = rw (for, two) (one_or_two_lem (leb 33792 (length area)) _) in
         pick_no _ _ _ (ne_eqb _ 0 (not_0 (leb 33792 (length area)) _ asked)) ∙ ap (λ (n : ℕ). unchanged n r t out) asked
 

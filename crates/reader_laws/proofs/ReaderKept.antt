@@ -31,7 +31,7 @@ pub data Change : Type 0 where
   reset_read_state : Change
   drop_last_read_to_anchor_chain_time : Change
   set_buffer_limits_by_partition : List ℕ → Change
-  read_into_buffers : List ℕ → List ℕ → AnchorsCacheTransaction → List ℕ → GetNextMessageGroupMode → Bool → List ℕ → Change
+  read_into_buffers : List ℕ → List ℕ → AnchorsCacheTransaction → List ℕ → GetNextMessageGroupMode → List ℕ → Change
   finalize : Change
   retain_only_last_range_state : Change
   set_from_to_current_position_in_last_range_state : Change
@@ -47,8 +47,8 @@ called new r = new_call r
 called reset_read_state r = reset_call r
 called drop_last_read_to_anchor_chain_time r = drop_last_call r
 called (set_buffer_limits_by_partition limits) r = set_limits_call r limits
-called (read_into_buffers tables area t routes mode strict out) r =
-    let a = (read_all_call tables area t routes r mode strict out).answer in record { number = a.number; reader = a.reader }
+called (read_into_buffers tables area t routes mode out) r =
+    let a = (read_all_call tables area t routes r mode out).answer in record { number = a.number; reader = a.reader }
 called finalize r = finalize_call r
 called retain_only_last_range_state r = retain_call r
 called set_from_to_current_position_in_last_range_state r = set_from_call r
@@ -70,11 +70,11 @@ new_asked : (r : ExternalsReader) → reader_number r ≡ 0 → Five r
 unfolding reader_number
 new_asked r z = settled_five r (first_zero _ _ (first_zero _ _ z).1).0
 
-read_asked : (tables area : List ℕ) (t : AnchorsCacheTransaction) (routes : List ℕ) (r : ExternalsReader) (mode : GetNextMessageGroupMode) (strict : Bool) (out : List ℕ) → (read_all_call tables area t routes r mode strict out).answer.number ≡ 0 → Five r
-read_asked tables area t routes r mode strict out =
+read_asked : (tables area : List ℕ) (t : AnchorsCacheTransaction) (routes : List ℕ) (r : ExternalsReader) (mode : GetNextMessageGroupMode) (out : List ℕ) → (read_all_call tables area t routes r mode out).answer.number ≡ 0 → Five r
+read_asked tables area t routes r mode out =
     let P : ReadAllResult → Type 0 = λ d. d.answer.number ≡ 0 → Five r in
     let five = asked_five tables area t routes r in
-    answered tables area t routes r mode strict out P (λ z m e. five z) (λ n z. absurd (n z)) (λ z m e. five z)
+    answered tables area t routes r mode out P (λ z m e. five z) (λ n z. absurd (n z)) (λ z m e. five z)
 
 asked : (c : Change) (r : ExternalsReader) → (called c r).number ≡ 0 → Five r
 unfolding new_call reset_call drop_last_call set_limits_call finalize_call retain_call set_from_call increment_call drop_call set_skip_call set_processed_call taken_call
@@ -82,7 +82,7 @@ asked new r z = new_asked r z
 asked reset_read_state r z = z
 asked drop_last_read_to_anchor_chain_time r z = z
 asked (set_buffer_limits_by_partition limits) r z = settled_five _ z
-asked (read_into_buffers tables area t routes mode strict out) r z = read_asked tables area t routes r mode strict out z
+asked (read_into_buffers tables area t routes mode out) r z = read_asked tables area t routes r mode out z
 asked finalize r z = offset_asked r _ _ z
 asked retain_only_last_range_state r z = offset_asked r _ _ z
 asked set_from_to_current_position_in_last_range_state r z = offset_asked r _ _ z
@@ -130,7 +130,7 @@ every_call_keeps_question_5_of_the_reader new r h e = changed_five (new_call r) 
 every_call_keeps_question_5_of_the_reader reset_read_state r h e = changed_five (reset_call r) _ r _ refl e e
 every_call_keeps_question_5_of_the_reader drop_last_read_to_anchor_chain_time r h e = changed_five (drop_last_call r) _ r _ refl e e
 every_call_keeps_question_5_of_the_reader (set_buffer_limits_by_partition limits) r h e = changed_five (set_limits_call r limits) _ r _ refl e e
-every_call_keeps_question_5_of_the_reader (read_into_buffers tables area t routes mode strict out) r h e = a_read_of_all_keeps_question_5_of_its_reader tables area t routes r mode strict out h e
+every_call_keeps_question_5_of_the_reader (read_into_buffers tables area t routes mode out) r h e = a_read_of_all_keeps_question_5_of_its_reader tables area t routes r mode out h e
 every_call_keeps_question_5_of_the_reader finalize r h e = changed_five (finalize_call r) _ r _ refl e (finalized_five r e)
 every_call_keeps_question_5_of_the_reader retain_only_last_range_state r h e =
     changed_five (retain_call r) _ r _ refl e (held_five r e (last_only (ranges_of r)) (omega (arith, length-drop (length (ranges_of r) - 1) (ranges_of r))) (the_last_range_alone_answers_question_5 (ranges_of r) (sound r e)))

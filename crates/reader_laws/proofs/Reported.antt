@@ -1,7 +1,7 @@
 -- Document 02, ticket 7: the free places that a read of all answers, of the call's own answer.
 use Prim.Native.Nat.{ℕ}
 use mathlib.Core.Path.{◌≡◌, refl, ap}
-use mathlib.Core.Bool.{Bool, true, false}
+use mathlib.Core.Bool.{true, false}
 use mathlib.Core.List.{List}
 use mathlib.Core.Logic.{inl}
 use mathlib.Core.Option.{none}
@@ -33,24 +33,24 @@ window_reports tables area t routes x pops mode range room =
     window_done tables area t routes x pops mode range room P
     (λ z. (steps_kept tables area before x.shard routes x.limits x.processed x.params.externals_expire_timeout mode range room z).within.free)
 
-module _ (tables area : List ℕ) (t : AnchorsCacheTransaction) (routes : List ℕ) (r : ExternalsReader) (mode : GetNextMessageGroupMode) (strict : Bool) (out : List ℕ) where
+module _ (tables area : List ℕ) (t : AnchorsCacheTransaction) (routes : List ℕ) (r : ExternalsReader) (mode : GetNextMessageGroupMode) (out : List ℕ) where
   abbrev free : LastFree
-  free = (read_all_call tables area t routes r mode strict out).answer.free
+  free = (read_all_call tables area t routes r mode out).answer.free
 
   -- "is left out if no range was read or the read was refused"
-  pub a_refused_read_of_all_reports_nothing : ((read_all_call tables area t routes r mode strict out).answer.number ≡ 0 → ⊥) → free_value free ≡ none
-  a_refused_read_of_all_reports_nothing h = ap (λ (d : ReadAllResult). free_value d.answer.free) (a_refused_read_of_all_changes_nothing tables area t routes r mode strict out h)
+  pub a_refused_read_of_all_reports_nothing : ((read_all_call tables area t routes r mode out).answer.number ≡ 0 → ⊥) → free_value free ≡ none
+  a_refused_read_of_all_reports_nothing h = ap (λ (d : ReadAllResult). free_value d.answer.free) (a_refused_read_of_all_changes_nothing tables area t routes r mode out h)
 
   pub once_all_ranges_are_read_nothing_is_reported : r.all_ranges_fully_read ≡ true → free_value free ≡ none
-  once_all_ranges_are_read_nothing_is_reported e = ap (λ (d : ReadAllResult). free_value d.answer.free) (once_all_ranges_are_read_only_the_questions_are_asked tables area t routes r mode strict out e)
+  once_all_ranges_are_read_nothing_is_reported e = ap (λ (d : ReadAllResult). free_value d.answer.free) (once_all_ranges_are_read_only_the_questions_are_asked tables area t routes r mode out e)
 
   -- Of the sixteen slots that a reader's type gives: none told, and every range handed in is left as it was; or some
   -- range that is left has as many places free as are told, and those behind it are left as they were.
   pub a_read_of_all_reports_the_free_places_of_the_last_range_read : length r.reader_state.ranges ≡ max_ranges
-      → (let a = (read_all_call tables area t routes r mode strict out).answer in
+      → (let a = (read_all_call tables area t routes r mode out).answer in
       Reported r.buffer_limits_by_partitions r.reader_state.ranges r.reader_state.len a.reader.reader_state.len a.free a.reader.reader_state.ranges)
   unfolding all_ranges_read
-  a_read_of_all_reports_the_free_places_of_the_last_range_read sixteen = answered tables area t routes r mode strict out P (λ z m. as_it_was 0) (λ n. as_it_was (asked_of_read tables area t routes r)) done
+  a_read_of_all_reports_the_free_places_of_the_last_range_read sixteen = answered tables area t routes r mode out P (λ z m. as_it_was 0) (λ n. as_it_was (asked_of_read tables area t routes r)) done
     where
       P : ReadAllResult → Type 0
       P d = Reported r.buffer_limits_by_partitions r.reader_state.ranges r.reader_state.len d.answer.reader.reader_state.len d.answer.free d.answer.reader.reader_state.ranges
@@ -59,12 +59,12 @@ module _ (tables area : List ℕ) (t : AnchorsCacheTransaction) (routes : List �
       as_it_was n = inl (record { told = refl; same = λ j h. refl })
 
       q : RangesRead
-      q = (all_ranges_read tables area t routes r mode strict (length out)).value
+      q = (all_ranges_read tables area t routes r mode (length out)).value
 
-      done : asked_of_read tables area t routes r ≡ 0 → r.all_ranges_fully_read ≡ false → P (all_result tables area t r (all_ranges_read tables area t routes r mode strict (length out)) out)
+      done : asked_of_read tables area t routes r ≡ 0 → r.all_ranges_fully_read ≡ false → P (all_result tables area t r (all_ranges_read tables area t routes r mode (length out)) out)
       done z m =
-          let s = begun tables area t routes r mode strict out z m in
-          let x = fixed tables area t routes r mode strict out in
+          let s = begun tables area t routes r mode out z m in
+          let x = fixed tables area t routes r mode out in
           pick_both P (eqb q.so_far.number 0) _ _
           (the_free_places_told_are_those_of_the_last_range_read (window_read tables area t routes x) x r.reader_state (window_reports tables area t routes x) (omega (arith, s.slots, sixteen)) (omega (arith, s.limit, sixteen)))
           (as_it_was q.so_far.number)

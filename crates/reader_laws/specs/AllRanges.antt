@@ -1,6 +1,6 @@
 -- The read of all ranges as the book counts it: its number from the questions on what it is handed and on the book's
 -- two caches, its pops by the rules on the present one.
-use Rattle.std.specs.Prelude.{ℕ, Bool, true, List, [], ◌∷◌, length}
+use Rattle.std.specs.Prelude.{ℕ, true, List, [], ◌∷◌, length}
 use Rattle.rows.specs.Rows.{pick}
 use Rattle.messages_buffer.specs.Fullness.{partitions_number, limited_number, first_no}
 use Rattle.anchors_cache.specs.declared.AnchorsCacheTransaction.{AnchorsCacheTransaction}
@@ -26,7 +26,6 @@ pub record HandedAll : Type 0 where
   pub routes : List ℕ
   pub reader : ExternalsReader
   pub mode : GetNextMessageGroupMode
-  pub strict : Bool
   pub out : List ℕ
 
 -- Document 01: "the last imported entry's id and message count", where history is nonempty
@@ -34,7 +33,7 @@ abbrev pub imported_of : Cache → Imported
 imported_of v = end_of (info_found (last_of v.history))
 
 abbrev pub book_fixed : HandedAll → Cache → Fixed
-book_fixed h v = fixed_of h.reader h.mode h.strict (imported_of v) (length h.out)
+book_fixed h v = fixed_of h.reader h.mode (imported_of v) (length h.out)
 
 -- one range's six steps on a cache
 unfoldable pub range_steps : List ℕ → Fixed → Cache → ReadNextExternalsMode → ExternalsRangeReaderState → ℕ → Outcome RangeRead
@@ -68,5 +67,5 @@ book_all_pops h v = pick h.reader.all_ranges_fully_read 0 (book_all_read h v).va
 -- number and transaction of the call, as its contract says
 unfoldable pub read_all_on_window : HandedAll → List ℕ → List ℕ → AnchorsCacheTransaction → Done
 read_all_on_window h tables area t =
-    let a = (read_all_call tables area t h.routes h.reader h.mode h.strict h.out).answer in
+    let a = (read_all_call tables area t h.routes h.reader h.mode h.out).answer in
     record { number = a.number; state = a.state }

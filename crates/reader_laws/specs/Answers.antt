@@ -149,7 +149,7 @@ reader_left r q =
 abbrev pub all_reply : HandedAll → Reply
 all_reply h =
     record {
-      on_window = λ tables area t. all_answered (read_all_call tables area t h.routes h.reader h.mode h.strict h.out);
+      on_window = λ tables area t. all_answered (read_all_call tables area t h.routes h.reader h.mode h.out);
       of_cache =
           λ v.
           let s = book_all_read h v in

@@ -20,7 +20,7 @@ use Rattle.range_rules.specs.declared.ExternalsRangeReaderState.{ExternalsRangeR
 use Rattle.range_rules.specs.declared.ReadCounts.{ReadCounts}
 use Rattle.range_rules.specs.declared.LastChainTime.{LastChainTime}
 use Rattle.range_rules.specs.declared.LastChainTime.TheVariants.{Nothing, Time}
-use Rattle.range_rules.specs.declared.ReadNextExternalsMode.TheVariants.{ToTheEnd, ToPreviuosReadTo, ToPreviuosReadToStrict}
+use Rattle.range_rules.specs.declared.ReadNextExternalsMode.TheVariants.{ToTheEnd, ToPreviuosReadTo}
 use Rattle.range_rules.specs.Rules.{Outcome, silent, followed, no_key, time_value}
 use Rattle.reader_rules.specs.declared.ExternalsPartitionReaderState.{ExternalsPartitionReaderState}
 use Rattle.reader_rules.specs.declared.GetNextMessageGroupMode.TheVariants.{Continue, Refill}
@@ -31,7 +31,7 @@ use Rattle.reader_rules.specs.declared.SoFar.{SoFar}
 use Rattle.reader_rules.specs.declared.ExternalsReaderState.{ExternalsReaderState}
 use Rattle.reader_rules.specs.State.{no_range, no_reader_partition, with_fully_read, with_to_and_position, open_ranges_limit_of}
 use Rattle.reader_rules.proofs.Each.{each_at, each_length}
-use Rattle.reader_rules.specs.Rules.{with_default, partitions_entered, range_entered, ranges_entered, last_or, next_partition, next_range, continues, wants_next, reached, before_skip_offsets, is_own, waits, is_skipped, previous_mode, mode_for, moved_to_end, settled, Told, numbered, not_all_read, added, read_of, after_turn, sums, counts_added, OneRange, read_turn, turn, is_over, turns, with_next_range, at_entry, time_saved, free_value}
+use Rattle.reader_rules.specs.Rules.{with_default, partitions_entered, range_entered, ranges_entered, last_or, next_partition, next_range, continues, wants_next, reached, before_skip_offsets, is_own, waits, is_skipped, mode_for, moved_to_end, settled, Told, numbered, not_all_read, added, read_of, after_turn, sums, counts_added, OneRange, read_turn, turn, is_over, turns, with_next_range, at_entry, time_saved, free_value}
 
 -- ---- `new`
 pub a_partition_that_is_there_stays : (limit : ℕ) (p : ExternalsPartitionReaderState) → p.present ≡ true → with_default limit p ≡ p
@@ -184,14 +184,9 @@ module _ (x : Fixed) (range : ExternalsRangeReaderState) where
   unfolding mode_for
   the_block's_own_range_is_read_to_the_end o = pick_yes _ _ _ o
 
-  pub other_ranges_are_read_to_their_saved_end : is_own x range.seqno ≡ false → x.strict ≡ false → mode_for x range.seqno ≡ ToPreviuosReadTo
+  pub other_ranges_are_read_to_their_saved_end : is_own x range.seqno ≡ false → mode_for x range.seqno ≡ ToPreviuosReadTo
   unfolding mode_for
-  other_ranges_are_read_to_their_saved_end o s = pick_no _ _ _ o ∙ ap previous_mode s
-
-  -- Document 02, ticket 6
-  pub in_strict_other_ranges_are_read_strictly_to_their_saved_end : is_own x range.seqno ≡ false → x.strict ≡ true → mode_for x range.seqno ≡ ToPreviuosReadToStrict
-  unfolding mode_for
-  in_strict_other_ranges_are_read_strictly_to_their_saved_end o s = pick_no _ _ _ o ∙ ap previous_mode s
+  other_ranges_are_read_to_their_saved_end o = pick_no _ _ _ o
 
   pub no_other_range_is_moved : is_own x range.seqno ≡ false → settled x range ≡ range
   unfolding settled

@@ -14,7 +14,7 @@ use Rattle.range_rules.specs.declared.ReadCounts.{ReadCounts}
 use Rattle.range_rules.specs.declared.LastChainTime.{LastChainTime}
 use Rattle.range_rules.specs.declared.LastChainTime.TheVariants.{Nothing, Time}
 use Rattle.range_rules.specs.declared.ReadNextExternalsMode.{ReadNextExternalsMode}
-use Rattle.range_rules.specs.declared.ReadNextExternalsMode.TheVariants.{ToTheEnd, ToPreviuosReadTo, ToPreviuosReadToStrict}
+use Rattle.range_rules.specs.declared.ReadNextExternalsMode.TheVariants.{ToTheEnd, ToPreviuosReadTo}
 use Rattle.range_rules.specs.Rules.{Outcome, silent, followed, no_key, no_counts}
 use Rattle.reader_rules.specs.declared.ExternalsPartitionReaderState.{ExternalsPartitionReaderState}
 use Rattle.reader_rules.specs.declared.GetNextMessageGroupMode.{GetNextMessageGroupMode}
@@ -123,14 +123,9 @@ waits Continue own = false
 unfoldable pub is_skipped : Fixed → ExternalsRangeReaderState → Bool
 is_skipped x range = waits x.mode (is_own x range.seqno) || before_skip_offsets x.by_partitions range.by_partitions
 
--- Document 02, ticket 6: "a strict read beside the present one, chosen at the call"
-abbrev pub previous_mode : Bool → ReadNextExternalsMode
-previous_mode true = ToPreviuosReadToStrict
-previous_mode false = ToPreviuosReadTo
-
 -- "The block's own is read `ToTheEnd`, others `ToPreviuosReadTo`."
 unfoldable pub mode_for : Fixed → ℕ → ReadNextExternalsMode
-mode_for x seqno = pick (is_own x seqno) ToTheEnd (previous_mode x.strict)
+mode_for x seqno = pick (is_own x seqno) ToTheEnd ToPreviuosReadTo
 
 abbrev pub moved_to_end : Imported → ExternalsRangeReaderState → ExternalsRangeReaderState
 moved_to_end imported.Nothing r = r
@@ -244,8 +239,8 @@ ranges_read one x r = next_turn one x (turns one x r.len 0 (silent r))
 abbrev pub processed_of : ExternalsPartitionReaderState → ProcessedTo
 processed_of p = record { key = p.processed_to; present = p.present }
 
-abbrev pub fixed_of : ExternalsReader → GetNextMessageGroupMode → Bool → Imported → ℕ → Fixed
-fixed_of r mode strict end room =
+abbrev pub fixed_of : ExternalsReader → GetNextMessageGroupMode → Imported → ℕ → Fixed
+fixed_of r mode end room =
     record {
       shard = r.for_shard_id;
       block_seqno = r.block_seqno;
@@ -253,7 +248,6 @@ fixed_of r mode strict end room =
       params = r.msgs_exec_params;
       limits = r.buffer_limits_by_partitions;
       mode = mode;
-      strict = strict;
       by_partitions = r.reader_state.by_partitions;
       processed = map processed_of r.reader_state.by_partitions;
       imported = end;

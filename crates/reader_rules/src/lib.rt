@@ -60,8 +60,7 @@ pub enum Imported {
     End(ExternalKey),
 }
 
-// What a read of all ranges fixes at entry; `strict` is told at the call (ticket 6 of document 02), `room` is the length
-// of the lent output.
+// What a read of all ranges fixes at entry; `room` is the length of the lent output.
 #[derive(Drop)]
 pub struct Fixed {
     pub shard: ShardIdent,
@@ -70,7 +69,6 @@ pub struct Fixed {
     pub params: MsgsExecutionParams,
     pub limits: [u16; 8],
     pub mode: GetNextMessageGroupMode,
-    pub strict: bool,
     pub by_partitions: [ExternalsPartitionReaderState; 8],
     pub processed: [ProcessedTo; 8],
     pub imported: Imported,

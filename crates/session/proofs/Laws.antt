@@ -91,7 +91,7 @@ module _ (l : Lent) (s : Session) (r : ExternalsReader) (kind : ℕ) (p text : L
 
 module _ (l : Lent) (s : Session) (r : ExternalsReader) (kind : ℕ) (p text : List ℕ) (not-shard : kind ≡ 1 → ⊥) (not-settings : kind ≡ 3 → ⊥) where
   pub read_step : (d : ℕ) (x : ReadLeft) → s.routes_len ≤ length l.routes → d ≡ get_or p 0 0
-      → x ≡ read_left s (read_all_call l.tables l.area s.transaction (take (s.routes_len - 0) l.routes) r (mode_of d) false l.entries) text
+      → x ≡ read_left s (read_all_call l.tables l.area s.transaction (take (s.routes_len - 0) l.routes) r (mode_of d) l.entries) text
       → whole x.session x.reader l.tables l.area l.routes x.entries x.text ≡ leaves (reader_outcome l s r kind p) text
   unfolding reader_outcome reader_said reader_reader reader_entries
   read_step d x h e f =

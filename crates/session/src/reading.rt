@@ -1,5 +1,5 @@
 // The records that reach the reader: the shard, the settings and the reads of all ranges.
-ghost use Rattle.std.specs.Prelude.{◌≡◌, false, ◌++◌, take};
+ghost use Rattle.std.specs.Prelude.{◌≡◌, ◌++◌, take};
 ghost use Rattle.rows.specs.Rows.{whole_rows};
 ghost use Rattle.text.specs.Shown.{show};
 ghost use Rattle.lines.specs.Lines.{entry_lines, range_lines};
@@ -161,7 +161,7 @@ fn read(
     d: u8,
 ) -> Stepped
     ensures { record { session = result.session; reader = result.reader; entries = entries.new; text = text.new }
-        ≡ read_left session (read_all_call tables.now area.now session.transaction routes.now reader (mode_of d) false entries.old) text.old }
+        ≡ read_left session (read_all_call tables.now area.now session.transaction routes.now reader (mode_of d) entries.old) text.old }
 {
     let t = session.transaction;
     let mode = mode_of(d);
@@ -172,7 +172,6 @@ fn read(
         routes,
         reader,
         mode,
-        false,
         &mut *entries,
     );
     let transaction = answer.state;

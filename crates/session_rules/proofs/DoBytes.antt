@@ -1,7 +1,6 @@
 -- Each do byte (document 01, kind 0005) and its call.
 use Prim.Native.Nat.{ℕ}
 use mathlib.Core.Path.{◌≡◌, refl}
-use mathlib.Core.Bool.{false}
 use mathlib.Core.List.{List, [], ◌∷◌}
 use lib.ListN.{take}
 use Rattle.anchors_cache.specs.declared.AnchorsCacheTransaction.{AnchorsCacheTransaction}
@@ -29,8 +28,8 @@ module _ (n : ℕ) (tables : List ℕ) (t : AnchorsCacheTransaction) where
 
 -- the reads, on the routes that are listed
 module _ (l : Lent) (s : Session) (r : ExternalsReader) where
-  pub byte_3_reads_in_Continue : session_read l s r (3 ∷ []) ≡ read_all_call l.tables l.area s.transaction (take s.routes_len l.routes) r Continue false l.entries
+  pub byte_3_reads_in_Continue : session_read l s r (3 ∷ []) ≡ read_all_call l.tables l.area s.transaction (take s.routes_len l.routes) r Continue l.entries
   byte_3_reads_in_Continue = refl
 
-  pub byte_4_reads_in_Refill : session_read l s r (4 ∷ []) ≡ read_all_call l.tables l.area s.transaction (take s.routes_len l.routes) r Refill false l.entries
+  pub byte_4_reads_in_Refill : session_read l s r (4 ∷ []) ≡ read_all_call l.tables l.area s.transaction (take s.routes_len l.routes) r Refill l.entries
   byte_4_reads_in_Refill = refl

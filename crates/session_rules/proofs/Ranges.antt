@@ -1,7 +1,6 @@
 -- The table of ranges keeps its length through every record.
 use Prim.Native.Nat.{ℕ, zero, suc, ◌+◌, ◌-◌, ◌≤◌}
 use mathlib.Core.Path.{◌≡◌, refl, ◌∙◌}
-use mathlib.Core.Bool.{Bool, false}
 use mathlib.Core.List.{List}
 use native.Mathlib.Omega.{arith}
 use lib.Dec.{eqb}
@@ -49,12 +48,12 @@ module _ (one : OneRange) (x : Fixed) where
       let P : Walk RangesRead → Type 0 = λ q. length q.value.ranges ≡ length r.ranges in
       pick_both P (wants_next x s.value) _ _ (turn_keeps s.value.len (with_next_range x s.value) ∙ (length-set s.value.ranges s.value.len _ ∙ e)) e
 
-pub a_read_keeps_the_length_of_the_ranges : (tables area : List ℕ) (t : AnchorsCacheTransaction) (routes : List ℕ) (r : ExternalsReader) (mode : GetNextMessageGroupMode) (strict : Bool) (out : List ℕ)
-    → length (read_all_call tables area t routes r mode strict out).answer.reader.reader_state.ranges ≡ length r.reader_state.ranges
+pub a_read_keeps_the_length_of_the_ranges : (tables area : List ℕ) (t : AnchorsCacheTransaction) (routes : List ℕ) (r : ExternalsReader) (mode : GetNextMessageGroupMode) (out : List ℕ)
+    → length (read_all_call tables area t routes r mode out).answer.reader.reader_state.ranges ≡ length r.reader_state.ranges
 unfolding read_all_call all_ranges_read
-a_read_keeps_the_length_of_the_ranges tables area t routes r mode strict out =
-    let x = fixed_of r mode strict (imported_in tables t.cache) (length out) in
-    let s = all_ranges_read tables area t routes r mode strict (length out) in
+a_read_keeps_the_length_of_the_ranges tables area t routes r mode out =
+    let x = fixed_of r mode (imported_in tables t.cache) (length out) in
+    let s = all_ranges_read tables area t routes r mode (length out) in
     let P : ReadAllResult → Type 0 = λ a. length a.answer.reader.reader_state.ranges ≡ length r.reader_state.ranges in
     pick_both P (eqb (asked_of_read tables area t routes r) 0) _ _
     (pick_both P r.all_ranges_fully_read _ _ refl
@@ -74,7 +73,7 @@ settings_within r p =
 reader_within : (l : Lent) (s : Session) (r : ExternalsReader) (kind : ℕ) (p : List ℕ) → Within r → Within (reader_reader l s r kind p)
 unfolding reader_reader shard_done
 reader_within l s r kind p h =
-    let e = a_read_keeps_the_length_of_the_ranges l.tables l.area s.transaction (take s.routes_len l.routes) r (mode_of (get_or p 0 0)) false l.entries in
+    let e = a_read_keeps_the_length_of_the_ranges l.tables l.area s.transaction (take s.routes_len l.routes) r (mode_of (get_or p 0 0)) l.entries in
     pick_both Within (eqb kind 1) _ _ (pick_both Within (eqb (shard_done r p).number 0) _ _ h h)
     (pick_both Within (eqb kind 3) _ _ (pick_both Within (eqb (settings_done r p).number 0) _ _ (settings_within r p) h)
     (pick_both Within (has_routes l s) (session_read l s r p).answer.reader r (omega arith) h))

@@ -44,11 +44,11 @@ unfolding after_or_bad
 after_or_bad_short before after number = pick_both Short (eqb number 0) (nothing_said after) (bad_said before number) (nothing_short after) (bad_short before number)
 
 -- ---- a read
-pub a_read_keeps_the_output's_length : (tables area : List ℕ) (t : AnchorsCacheTransaction) (routes : List ℕ) (r : ExternalsReader) (mode : GetNextMessageGroupMode) (strict : Bool) (out : List ℕ)
-    → length (read_all_call tables area t routes r mode strict out).out ≡ length out
+pub a_read_keeps_the_output's_length : (tables area : List ℕ) (t : AnchorsCacheTransaction) (routes : List ℕ) (r : ExternalsReader) (mode : GetNextMessageGroupMode) (out : List ℕ)
+    → length (read_all_call tables area t routes r mode out).out ≡ length out
 unfolding read_all_call
-a_read_keeps_the_output's_length tables area t routes r mode strict out =
-    let s = all_ranges_read tables area t routes r mode strict (length out) in
+a_read_keeps_the_output's_length tables area t routes r mode out =
+    let s = all_ranges_read tables area t routes r mode (length out) in
     let P : ReadAllResult → Type 0 = λ x. length x.out ≡ length out in
     pick_both P (eqb (asked_of_read tables area t routes r) 0) _ _
     (pick_both P r.all_ranges_fully_read _ _ refl (pick_both P (eqb s.value.so_far.number 0) _ _ (length-sets out 0 s.entries) refl))
@@ -139,7 +139,7 @@ module _ (l : Lent) (s : Session) (r : ExternalsReader) (kind : ℕ) (p : List �
       go true settings routes k = let m = after_or_bad_short s s (shard_done r p).number in omega arith
       go false true routes k = let m = after_or_bad_short s s (settings_done r p).number in omega arith
       go false false true k =
-          let e = a_read_keeps_the_output's_length l.tables l.area s.transaction (take s.routes_len l.routes) r (mode_of (get_or p 0 0)) false l.entries in
+          let e = a_read_keeps_the_output's_length l.tables l.area s.transaction (take s.routes_len l.routes) r (mode_of (get_or p 0 0)) l.entries in
           a_read's_text_fits a.answer a.out (omega arith) k
       go false false false k = let m = bad_short s 3 in omega arith
 

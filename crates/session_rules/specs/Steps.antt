@@ -104,7 +104,7 @@ reaches_reader kind d = pick (eqb kind 1) true (pick (eqb kind 3) true (pick (eq
 
 -- each read is lent the output, and the routes that are listed; where fewer are lent than listed it is refused
 abbrev pub session_read : Lent → Session → ExternalsReader → List ℕ → ReadAllResult
-session_read l s r p = read_all_call l.tables l.area s.transaction (take s.routes_len l.routes) r (mode_of (get_or p 0 0)) false l.entries
+session_read l s r p = read_all_call l.tables l.area s.transaction (take s.routes_len l.routes) r (mode_of (get_or p 0 0)) l.entries
 
 abbrev pub has_routes : Lent → Session → Bool
 has_routes l s = leb s.routes_len (length l.routes)

@@ -6,7 +6,7 @@ use externals::*;
 use oracle::FUNCTIONS;
 
 use crate::records::{Bad, Fields, Input, Record};
-use crate::{put, Seen};
+use crate::{put, Calls};
 
 /// Entries of the largest output that is lent: every message in every range.
 const MOST_PLACES: usize = 16 * 1024;
@@ -26,7 +26,7 @@ struct Driver<'c> {
     number: u64,
     /// the number of the record's call, if it made one
     called: Option<u8>,
-    seen: &'c mut Seen,
+    calls: &'c mut Calls,
 }
 
 /// All that the library holds between two calls.
@@ -36,18 +36,8 @@ struct Whole {
     area: Box<[u8]>,
 }
 
-impl Whole {
-    /// The library once more, with all this.
-    fn library(self) -> Externals {
-        let mut e = sure(Externals::new(self.state.reader));
-        let (state, tables, area) = sure(e.parts_mut());
-        (*state, *tables, *area) = (self.state, self.tables, self.area);
-        e
-    }
-}
-
-fn count(seen: &mut Seen, name: &'static str, number: u8) {
-    *seen.calls.entry((name, number)).or_default() += 1;
+fn count(calls: &mut Calls, name: &'static str, number: u8) {
+    *calls.entry((name, number)).or_default() += 1;
 }
 
 fn number<T>(answer: &Result<T, Refused>) -> u8 {
@@ -68,27 +58,26 @@ fn reader_of(shard: ShardIdent, f: &mut Fields<'_>) -> Reader {
 }
 
 /// The first two records: the shard, then the settings.
-fn head(input: &mut Input<'_>, seen: &mut Seen) -> Result<Externals, Bad> {
+fn head(input: &mut Input<'_>, calls: &mut Calls) -> Result<Externals, Bad> {
     let mut f = input.first()?;
     let shard = ShardIdent { workchain: f.u32() as i32, prefix: f.u64() };
     let made = Externals::new(Reader { for_shard_id: shard, ..Reader::default() });
-    count(seen, "new", number(&made));
+    count(calls, "new", number(&made));
     let mut e = made.map_err(|Refused(n)| Bad(n))?;
     let renewed = e.renew(reader_of(shard, &mut input.first()?));
-    count(seen, "new", number(&renewed));
+    count(calls, "new", number(&renewed));
     renewed.map_err(|Refused(n)| Bad(n))?;
     Ok(e)
 }
 
 /// What a session prints.
-pub fn session(bytes: &[u8], seen: &mut Seen) -> String {
+pub fn session(bytes: &[u8], calls: &mut Calls) -> String {
     let mut input = Input::new(bytes);
-    let e = match head(&mut input, seen) {
+    let e = match head(&mut input, calls) {
         Ok(e) => e,
         Err(Bad(n)) => return format!("bad {} {n}\n", input.number),
     };
-    let (routes, text, called) = (Vec::new(), String::new(), None);
-    let mut d = Driver { e, routes, text, places: 1024, area: AREA_BYTES, number: 0, called, seen };
+    let mut d = Driver { e, routes: Vec::new(), text: String::new(), places: 1024, area: AREA_BYTES, number: 0, called: None, calls };
     loop {
         let done = match input.next() {
             Ok(None) => break d.end(),
@@ -135,7 +124,7 @@ impl Driver<'_> {
 
     fn count(&mut self, name: &'static str, number: u8) {
         self.called = Some(number);
-        count(self.seen, name, number);
+        count(self.calls, name, number);
     }
 
     fn record(&mut self, (kind, mut f): Record<'_>) -> Result<(), Bad> {
@@ -147,22 +136,28 @@ impl Driver<'_> {
             0x102 => put::partition(&mut self.e, &mut f),
             0x103 => put::marks(&mut self.e, &mut f),
             0x104 => self.places = f.u32() as usize,
-            0x105 => return self.limits(BufferLimits { by_partitions: put::limits(&mut f) }),
+            0x105 => {
+                let limits = BufferLimits { by_partitions: put::limits(&mut f) };
+                let done = self.e.set_buffer_limits_by_partition(limits);
+                return self.quiet("set_buffer_limits_by_partition", done);
+            }
             0x106 => return put::history(&mut self.e, f.0),
             0x107 => return put::cached(&mut self.e, f.0),
             0x108 => self.area = f.u32() as usize,
             0x110 => self.trim(ChainTime(f.u64())),
-            0x111 => self.one(f.u32(), f.flag(), false),
+            0x111 => self.one(f.u32(), f.flag()),
             0x112 => {
                 let done = self.e.messages_taken(f.u32(), f.u8(), f.u32());
                 self.line("took", &done);
             }
             0x113 => self.function(f.u8(), f.u8(), f.flag()),
             0x114 => self.at_ct(ChainTime(f.u64())),
-            0x115 => self.in_range(put::key(&mut f)),
+            0x115 => {
+                let yes = self.e.check_has_pending_externals_in_range(put::key(&mut f));
+                self.count("in_range", number(&yes));
+                writeln!(self.text, "in_range {}", u8::from(sure(yes))).unwrap();
+            }
             0x117 => self.info(f),
-            0x130 => self.one(f.u32(), f.flag(), true),
-            0x131 => self.all(if f.flag() { Mode::Refill } else { Mode::Continue }, true),
             _ => {
                 let reader = *self.e.reader();
                 let done = self.e.renew(reader);
@@ -179,25 +174,9 @@ impl Driver<'_> {
     }
 
     fn line<T>(&mut self, name: &'static str, answer: &Result<T, Refused>) {
-        self.line_of(name, name, answer);
-    }
-
-    /// A strict read prints as the present one does, and is counted under a name of its own.
-    fn line_of<T>(&mut self, name: &str, counted: &'static str, answer: &Result<T, Refused>) {
         let n = number(answer);
-        self.count(counted, n);
+        self.count(name, n);
         writeln!(self.text, "{name} {n}").unwrap();
-    }
-
-    fn limits(&mut self, limits: BufferLimits) -> Result<(), Bad> {
-        let done = self.e.set_buffer_limits_by_partition(limits);
-        self.quiet("set_buffer_limits_by_partition", done)
-    }
-
-    fn in_range(&mut self, up_to: ExternalKey) {
-        let yes = self.e.check_has_pending_externals_in_range(up_to);
-        self.count("in_range", number(&yes));
-        writeln!(self.text, "in_range {}", u8::from(sure(yes))).unwrap();
     }
 
     /// A call while only a part of the area is lent.
@@ -232,8 +211,8 @@ impl Driver<'_> {
         let (name, done) = match what {
             1 => ("open", self.lent(Externals::open)),
             2 => ("pop", self.pop()),
-            3 => return self.all(Mode::Continue, false),
-            4 => return self.all(Mode::Refill, false),
+            3 => return self.all(Mode::Continue),
+            4 => return self.all(Mode::Refill),
             5 => ("commit", self.lent(Externals::commit)),
             6 => ("rollback", self.lent(Externals::rollback)),
             _ => ("close", self.lent(Externals::close)),
@@ -275,27 +254,13 @@ impl Driver<'_> {
         vec![FILL; self.places.min(MOST_PLACES) * ENTRY_BYTES + (self.number % ENTRY_BYTES as u64) as usize]
     }
 
-    /// Counts a strict read that the present one, made on e, ends otherwise.
-    fn apart(&mut self, name: &'static str, e: &Externals, same: bool) {
-        let same = same && (e.transaction(), e.reader()) == (self.e.transaction(), self.e.reader());
-        *self.seen.apart.entry(name).or_default() += u64::from(!same);
-    }
-
-    fn all(&mut self, mode: Mode, strict: bool) {
-        let (mut out, was) = (self.output(), strict.then(|| self.whole()));
+    fn all(&mut self, mode: Mode) {
+        let mut out = self.output();
         let (routes, places) = (self.routes.clone(), self.message_places());
-        let read = |e: &mut Externals, strict, out: &mut [u8]| {
-            e.read_into_buffers(mode, strict, &routes, out).map(|(counts, free, used)| (counts, free, used.len()))
-        };
-        let answer = self.lent(|e| read(e, strict, &mut out));
-        self.line_of("read", if strict { "strict_read" } else { "read" }, &answer);
+        let answer = self.lent(|e| e.read_into_buffers(mode, &routes, &mut out).map(|(counts, free, used)| (counts, free, used.len())));
+        self.line("read", &answer);
         let used = answer.map_or(0, |(_, _, used)| used);
         assert!(out[used..].iter().all(|&b| b == FILL), "bytes beyond those used have changed");
-        if let (Some(was), Ok(_)) = (was, answer) {
-            let (mut e, mut other) = (was.library(), self.output());
-            let same = read(&mut e, false, &mut other) == answer && other == out;
-            self.apart("strict_read", &e, same);
-        }
         if let Ok((counts, free, used)) = answer {
             if let Some(places) = free {
                 writeln!(self.text, "free {places}").unwrap();
@@ -310,27 +275,25 @@ impl Driver<'_> {
     }
 
     /// What the read of all would tell the read of one range.
-    fn settings(&self, to_previous: bool, strict: bool) -> RangeSettings {
+    fn settings(&self, to_previous: bool) -> RangeSettings {
         let r = self.e.reader();
         let processed = r.reader_state.by_partitions.map(|p| ProcessedTo { key: p.processed_to, present: p.present });
-        let (shard, limits) = (r.for_shard_id, r.buffer_limits_by_partitions);
-        let timeout = r.msgs_exec_params.externals_expire_timeout;
-        RangeSettings { shard, limits, processed, timeout, to_previous, strict }
+        RangeSettings { shard: r.for_shard_id, limits: r.buffer_limits_by_partitions, processed, timeout: r.msgs_exec_params.externals_expire_timeout, to_previous }
     }
 
     /// The host holds the range, so that one that is missing is not the library's question: 15, after 1 and 9.
-    fn one(&mut self, seqno: u32, to_previous: bool, strict: bool) {
+    fn one(&mut self, seqno: u32, to_previous: bool) {
         let Some(i) = self.e.ranges().iter().position(|r| r.seqno == seqno) else {
             let n = if self.area < AREA_BYTES { 1 } else if self.e.transaction().active { 15 } else { 9 };
             return writeln!(self.text, "one {n}").unwrap();
         };
-        let (mut out, was) = (self.output(), strict.then(|| self.whole()));
-        let (routes, places) = (self.routes.clone(), self.message_places());
-        let (settings, mut range) = (self.settings(to_previous, strict), self.e.ranges()[i]);
+        let mut out = self.output();
+        let (routes, places, settings) = (self.routes.clone(), self.message_places(), self.settings(to_previous));
+        let mut range = self.e.ranges()[i];
         let answer = self.lent(|e| e.read_externals_into_buffers(&mut range, settings, &routes, &mut out));
         // a refused read's range is taken too: it must be as at entry
         self.e.reader_mut().reader_state.ranges[i] = range;
-        self.line_of("one", if strict { "strict_one" } else { "one" }, &answer);
+        self.line("one", &answer);
         let used = answer.map_or(0, |a| a.used);
         assert!(out[used..].iter().all(|&b| b == FILL), "bytes beyond those used have changed");
         let limits = BufferLimits { by_partitions: settings.limits };
@@ -342,28 +305,7 @@ impl Driver<'_> {
             writeln!(self.text, "answer {} {}", time(a.last_chain_time), a.free).unwrap();
             self.counts(&a.counts);
             self.entries(&out[..a.used], &places);
-            if let Some(was) = was {
-                self.beside(was, i, settings, (a, out));
-            }
         }
-    }
-
-    /// The present read beside a strict one of the range at i. By ticket 6 they may differ in expired counts, pops,
-    /// position, "to" and the last chain time alone, and the strict one does not raise "to".
-    fn beside(&mut self, was: Whole, i: usize, settings: RangeSettings, (a, out): (RangeAnswer, Vec<u8>)) {
-        let (mut e, mut other) = (was.library(), self.output());
-        let (entry, strict) = (e.ranges()[i], self.e.ranges()[i]);
-        let (mut range, settings) = (entry, RangeSettings { strict: false, ..settings });
-        let b = sure(e.read_externals_into_buffers(&mut range, settings, &self.routes, &mut other));
-        e.reader_mut().reader_state.ranges[i] = range;
-        let kept = |a: RangeAnswer, r: Range| (a.free, a.counts.read, a.counts.buffered, r.fully_read, r.by_partitions);
-        assert_eq!(kept(a, strict), kept(b, range), "record {}", self.number);
-        assert!(out == other && a.pops <= b.pops, "record {}", self.number);
-        let key = |k: ExternalKey| (k.anchor_id, k.msgs_offset);
-        if settings.to_previous && key(entry.current_position) <= key(entry.to) {
-            assert_eq!(strict.to, entry.to, "record {}", self.number);
-        }
-        self.apart("strict_one", &e, a == b);
     }
 
     /// Where each cached anchor's messages stand in the area.

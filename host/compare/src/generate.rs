@@ -70,8 +70,6 @@ const REFILL: u8 = 4;
 const COMMIT: u8 = 5;
 const ROLLBACK: u8 = 6;
 const CLOSE: u8 = 7;
-/// Of 1,000 reads, those that are strict.
-const STRICT: usize = 333;
 
 struct Session {
     r: Rng,
@@ -175,7 +173,7 @@ fn begun(mut r: Rng) -> Session {
         seqnos: Vec::new(),
         span: r.pick(&[7, 7, 7, 14, 16]),
         open: false,
-        old: r.pick(&[0, 0, 100, 300, 600]),
+        old: r.pick(&[0, 0, 100, 300]),
         put: r.pick(&[0, 0, 0, 500, 1000]),
         big: r.chance(10),
         out: Vec::new(),
@@ -205,10 +203,6 @@ impl Session {
     }
 
     fn act(&mut self, what: u8) {
-        let read = matches!(what, READ | REFILL);
-        if read && self.r.chance(STRICT) {
-            return self.rec(0x131, payload().flag(what == REFILL));
-        }
         self.rec(5, payload().u8(what));
         match what {
             OPEN => self.open = true,
@@ -405,12 +399,7 @@ impl Session {
 
     fn one(&mut self) {
         let (seqno, to_previous) = (self.seqno(), self.r.chance(500));
-        self.one_of(seqno, to_previous);
-    }
-
-    fn one_of(&mut self, seqno: u32, to_previous: bool) {
-        let kind = if self.r.chance(STRICT) { 0x130 } else { 0x111 };
-        self.rec(kind, payload().u32(seqno).flag(to_previous));
+        self.rec(0x111, payload().u32(seqno).flag(to_previous));
     }
 
     fn took(&mut self) {
@@ -451,31 +440,6 @@ impl Session {
         }
     }
 
-    /// A range that was read before, mostly up to the anchors that come now and are expired, and a read: a strict one
-    /// often leaves what the present one takes.
-    fn grown(&mut self) {
-        if self.open {
-            self.act(CLOSE);
-        }
-        let last = if self.r.chance(300) { self.key() } else { (self.next_id, 0) };
-        let mut keys = [self.key(), self.key(), last];
-        keys.sort();
-        let (old, n) = (self.old, 1 + self.r.below(3));
-        self.old = 800;
-        self.anchors(n);
-        self.old = old;
-        self.act(OPEN);
-        let seqno = self.block.saturating_sub(1 + self.r.below(self.span) as u32);
-        let position = self.r.pick(&keys);
-        self.range(seqno, keys[0], position, keys[2]);
-        self.function(20);
-        match self.r.below(3) {
-            0 => self.act(READ),
-            1 => self.act(REFILL),
-            _ => self.one_of(seqno, true),
-        }
-    }
-
     /// Without a transaction most steps open one, often after anchors were added.
     fn begin(&mut self) {
         if self.r.chance(700) {
@@ -492,8 +456,7 @@ impl Session {
         match self.r.below(100) {
             0..=5 => self.act(READ),
             6 => self.act(REFILL),
-            7..=21 => self.again(),
-            22..=29 => self.grown(),
+            7..=29 => self.again(),
             30..=37 => self.one(),
             38..=43 => self.took(),
             44..=63 => {

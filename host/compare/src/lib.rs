@@ -11,30 +11,13 @@ use std::fmt;
 
 pub use driver::session;
 
-/// What the library's calls have shown.
-#[derive(Default)]
-pub struct Seen {
-    /// how often each call gave each number; only records that call something are counted
-    pub calls: BTreeMap<(&'static str, u8), u64>,
-    /// how often a strict read that was done came to something else than the present one on the same state
-    pub apart: BTreeMap<&'static str, u64>,
-}
-
-impl Seen {
-    fn add(&mut self, other: Seen) {
-        for (call, n) in other.calls {
-            *self.calls.entry(call).or_default() += n;
-        }
-        for (name, n) in other.apart {
-            *self.apart.entry(name).or_default() += n;
-        }
-    }
-}
+/// How often each call gave each number. Only records that call something are counted.
+pub type Calls = BTreeMap<(&'static str, u8), u64>;
 
 /// What was found equal.
 #[derive(Default)]
 pub struct Compared {
-    pub seen: Seen,
+    pub calls: Calls,
     sessions: u64,
     lines: usize,
     entries: usize,
@@ -44,12 +27,14 @@ impl Compared {
     /// Runs a session through both; where they part, the lines before it are told too.
     pub fn session(&mut self, bytes: &[u8]) -> Result<(), String> {
         let want = oracle::session(bytes, oracle::Opts { beyond: true, ..Default::default() });
-        let mut seen = Seen::default();
-        let got = session(bytes, &mut seen);
+        let mut calls = Calls::new();
+        let got = session(bytes, &mut calls);
         if want != got {
             return Err(difference(&want, &got));
         }
-        self.seen.add(seen);
+        for (call, n) in calls {
+            *self.calls.entry(call).or_default() += n;
+        }
         self.sessions += 1;
         self.lines += want.lines().count();
         self.entries += want.lines().filter(|l| l.starts_with("add ")).count();
@@ -57,7 +42,7 @@ impl Compared {
     }
 
     pub fn number_of_calls(&self) -> u64 {
-        self.seen.calls.values().sum()
+        self.calls.values().sum()
     }
 }
 
@@ -78,13 +63,10 @@ fn difference(want: &str, got: &str) -> String {
 
 impl fmt::Display for Compared {
     fn fmt(&self, f: &mut fmt::Formatter<'_>) -> fmt::Result {
-        for ((name, number), n) in &self.seen.calls {
+        for ((name, number), n) in &self.calls {
             writeln!(f, "{n:>9}  {name} {number}")?;
         }
         writeln!(f, "{:>9}  calls", self.number_of_calls())?;
-        for (name, n) in &self.seen.apart {
-            writeln!(f, "{n:>9}  {name} 0 that the present read ends otherwise")?;
-        }
         writeln!(f, "{} sessions, {} lines, {} of them entries", self.sessions, self.lines, self.entries)
     }
 }

@@ -246,17 +246,10 @@ impl Externals {
     }
 
     /// Reads all ranges: the counts, the free places of the last range read (none if no range was), and the used part
-    /// of `out`, which holds the entries. `strict`: every range but the block's own is read as with
-    /// [`RangeSettings::strict`].
-    pub fn read_into_buffers<'o>(
-        &mut self, mode: Mode, strict: bool, routes: &[u8], out: &'o mut [u8],
-    ) -> Result<(Counts, Option<u16>, &'o [u8]), Refused> {
-        let (tables, area, refill) = (&self.tables, &self.area, mode == Mode::Refill);
+    /// of `out`, which holds the entries.
+    pub fn read_into_buffers<'o>(&mut self, mode: Mode, routes: &[u8], out: &'o mut [u8]) -> Result<(Counts, Option<u16>, &'o [u8]), Refused> {
         let a = unsafe {
-            raw::ext_read_into_buffers(
-                &mut *self.state, out.as_mut_ptr(), out.len(), tables.as_ptr(), tables.len(), area.as_ptr(), area.len(),
-                routes.as_ptr(), routes.len(), refill, strict,
-            )
+            raw::ext_read_into_buffers(&mut *self.state, out.as_mut_ptr(), out.len(), self.tables.as_ptr(), self.tables.len(), self.area.as_ptr(), self.area.len(), routes.as_ptr(), routes.len(), mode == Mode::Refill)
         };
         done(a.number, (a.counts, a.free.present.then_some(a.free.places), &out[..a.used]))
     }

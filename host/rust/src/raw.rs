@@ -26,7 +26,7 @@ extern "C" {
     pub fn ext_drop_last_read_to_anchor_chain_time(reader: *mut Reader) -> u8;
     pub fn ext_get_partition_ids(reader: Reader) -> PartitionIds;
     pub fn ext_create_next_externals_range_state(reader: Reader) -> NextRange;
-    pub fn ext_read_into_buffers(e: *mut State, out: *mut u8, out_len: usize, tables: *const u8, tables_len: usize, area: *const u8, area_len: usize, routes: *const u8, routes_len: usize, refill: bool, strict: bool) -> AllAnswer;
+    pub fn ext_read_into_buffers(e: *mut State, out: *mut u8, out_len: usize, tables: *const u8, tables_len: usize, area: *const u8, area_len: usize, routes: *const u8, routes_len: usize, refill: bool) -> AllAnswer;
     pub fn ext_read_externals_into_buffers(e: *mut RangeAndCache, out: *mut u8, out_len: usize, tables: *const u8, tables_len: usize, area: *const u8, area_len: usize, routes: *const u8, routes_len: usize, settings: RangeSettings) -> RangeAnswer;
     pub fn ext_get_max_buffers_fill_state(limits: BufferLimits, range: Range) -> FreeAnswer;
     pub fn ext_finalize(reader: *mut Reader) -> u8;

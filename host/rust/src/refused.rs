@@ -61,8 +61,7 @@ impl Lent {
         l.anchor = MempoolAnchor { id: 2, chain_time: ChainTime(2000), author: [8; 32] };
         (l.ours, l.messages) = (2, vec![0; 2 * MESSAGE_BYTES]);
         assert_eq!((add(&mut l), open(&mut l), read_all(&mut l)), (0, 0, 0));
-        // with an end beyond all anchors, so that a strict read too comes to the messages
-        l.range = Range { to: KEY, ..l.state.reader.reader_state.ranges[0] };
+        l.range = l.state.reader.reader_state.ranges[0];
         l.anchor.id = 3;
         l
     }
@@ -168,25 +167,17 @@ calls! {
     last_offsets [0 5] |l, t, a| raw::ext_get_last_range_state_offsets_by_partitions(l.state.reader).number;
     has_pending [0 5] |l, t, a| raw::ext_has_pending_externals(t.0, t.1, l.state.transaction, l.state.reader).number;
     fill_state [0 4 5 10] |l, t, a| raw::ext_get_max_buffers_fill_state(l.limits, l.range).number;
-    read_all [0 1 2 3 4 5 9 10 11 12 13 14] |l, t, a| all_ranges(l, t, a, false);
-    read_all_strict [0 1 2 3 4 5 9 10 11 12 13 14] |l, t, a| all_ranges(l, t, a, true);
-    read_range [0 1 2 3 4 5 9 10 11 12 13 14] |l, t, a| one_range(l, t, a, l.settings);
-    read_range_strict [0 1 2 3 4 5 9 10 11 12 13 14] |l, t, a| {
-        one_range(l, t, a, RangeSettings { to_previous: true, strict: true, ..l.settings })
+    read_all [0 1 2 3 4 5 9 10 11 12 13 14] |l, t, a| {
+        let o = bytes(&mut l.out);
+        raw::ext_read_into_buffers(&mut l.state, o.0, o.1, t.0, t.1, a.0, a.1, l.routes.as_ptr(), l.routes.len(), false).number
     };
-}
-
-unsafe fn all_ranges(l: &mut Lent, t: Bytes, a: Bytes, strict: bool) -> u8 {
-    let (o, r) = (bytes(&mut l.out), bytes(&mut l.routes));
-    raw::ext_read_into_buffers(&mut l.state, o.0, o.1, t.0, t.1, a.0, a.1, r.0, r.1, false, strict).number
-}
-
-unsafe fn one_range(l: &mut Lent, t: Bytes, a: Bytes, settings: RangeSettings) -> u8 {
-    let (o, r) = (bytes(&mut l.out), bytes(&mut l.routes));
-    let mut e = RangeAndCache { transaction: l.state.transaction, range: l.range };
-    let n = raw::ext_read_externals_into_buffers(&mut e, o.0, o.1, t.0, t.1, a.0, a.1, r.0, r.1, settings).number;
-    (l.state.transaction, l.range) = (e.transaction, e.range);
-    n
+    read_range [0 1 2 3 4 5 9 10 11 12 13 14] |l, t, a| {
+        let o = bytes(&mut l.out);
+        let mut e = RangeAndCache { transaction: l.state.transaction, range: l.range };
+        let n = raw::ext_read_externals_into_buffers(&mut e, o.0, o.1, t.0, t.1, a.0, a.1, l.routes.as_ptr(), l.routes.len(), l.settings).number;
+        (l.state.transaction, l.range) = (e.transaction, e.range);
+        n
+    };
 }
 
 const HALF_OF_THE_MASTERCHAIN: ShardIdent = ShardIdent { workchain: -1, prefix: 0x4000_0000_0000_0000 };

@@ -63,10 +63,8 @@ plain! {
     pub struct State { pub transaction: Transaction, pub reader: Reader, } 3584
     pub struct RangeAndCache { pub transaction: Transaction, pub range: Range, } 304
     pub struct ProcessedTo { pub key: ExternalKey, pub present: bool, } 24
-    /// What a read of one range is told. `to_previous`: only to the end that was read to before. `strict`: an expired
-    /// anchor at which that end is reached stays in the cache, uncounted, and the range is fully read; without
-    /// `to_previous` it means nothing.
-    pub struct RangeSettings { pub shard: ShardIdent, pub limits: [u16; PARTITIONS], pub processed: [ProcessedTo; PARTITIONS], pub timeout: Seconds, pub to_previous: bool, pub strict: bool, } 232
+    /// What a read of one range is told. `to_previous`: only to the end that was read to before.
+    pub struct RangeSettings { pub shard: ShardIdent, pub limits: [u16; PARTITIONS], pub processed: [ProcessedTo; PARTITIONS], pub timeout: Seconds, pub to_previous: bool, } 232
     pub struct BufferLimits { pub by_partitions: [u16; PARTITIONS], } 16
     /// Messages of ours per partition.
     pub struct Counts { pub read: [u32; PARTITIONS], pub expired: [u32; PARTITIONS], pub buffered: [u32; PARTITIONS], } 96

@@ -29,7 +29,7 @@ fn the_sample_session() {
     let mut e = sample();
     let mut out = vec![0; 1024 * ENTRY_BYTES];
     assert_eq!(e.open(), Ok(()));
-    let (counts, free, used) = e.read_into_buffers(Mode::Continue, false, &[], &mut out).unwrap();
+    let (counts, free, used) = e.read_into_buffers(Mode::Continue, &[], &mut out).unwrap();
     assert_eq!(free, Some(0));
     let shown: Vec<_> = entries(used).map(|x| (x.seqno, x.partition, x.anchor_id, x.offset, x.chain_time.0)).collect();
     assert_eq!(shown, [(5, 0, 1, 1, 1000), (5, 0, 2, 1, 2000)]);
@@ -46,7 +46,7 @@ fn a_refused_call_leaves_everything() {
     let mut e = sample();
     let (t, r) = (*e.transaction(), *e.reader());
     let mut out = vec![9; 1024 * ENTRY_BYTES];
-    assert_eq!(e.read_into_buffers(Mode::Continue, false, &[], &mut out).unwrap_err(), Refused(9));
+    assert_eq!(e.read_into_buffers(Mode::Continue, &[], &mut out).unwrap_err(), Refused(9));
     assert_eq!(e.commit(), Err(Refused(9)));
     assert_eq!(e.add(MempoolAnchor { id: 2, ..Default::default() }, 1, &message(0)), Err(Refused(7)));
     assert_eq!(e.increment_curr_processed_offset(1), Err(Refused(15)));
@@ -59,7 +59,7 @@ fn messages_are_taken() {
     let mut e = sample();
     let mut out = vec![0; 1024 * ENTRY_BYTES];
     e.open().unwrap();
-    e.read_into_buffers(Mode::Continue, false, &[], &mut out).unwrap();
+    e.read_into_buffers(Mode::Continue, &[], &mut out).unwrap();
     e.commit().unwrap();
     e.close().unwrap();
     assert_eq!(e.count_messages_in_buffers_by_partitions().unwrap()[0], Some(2));
@@ -71,67 +71,24 @@ fn messages_are_taken() {
     assert_eq!(e.has_pending_externals(), Ok(false));
 }
 
-/// What the read of all would tell a range.
-fn settings(e: &Externals, to_previous: bool, strict: bool) -> RangeSettings {
-    let r = e.reader();
-    let processed = r.reader_state.by_partitions.map(|p| ProcessedTo { key: p.processed_to, present: p.present });
-    let (shard, limits) = (r.for_shard_id, r.buffer_limits_by_partitions);
-    RangeSettings { shard, limits, processed, timeout: Seconds(60), to_previous, strict }
-}
-
 #[test]
 fn one_range() {
     let mut e = sample();
     e.open().unwrap();
     let mut range = e.create_next_externals_range_state().unwrap();
-    let settings = settings(&e, false, false);
+    let key = ProcessedTo { key: ExternalKey::default(), present: true };
+    let settings = RangeSettings {
+        shard: e.reader().for_shard_id,
+        limits: e.reader().buffer_limits_by_partitions,
+        processed: [key, Default::default(), Default::default(), Default::default(), Default::default(), Default::default(), Default::default(), Default::default()],
+        timeout: Seconds(60),
+        to_previous: false,
+    };
     let mut out = vec![0; 1024 * ENTRY_BYTES];
     let a = e.read_externals_into_buffers(&mut range, settings, &[], &mut out).unwrap();
     assert_eq!((a.used, a.free, a.pops, a.last_chain_time.time), (2 * ENTRY_BYTES, 0, 1, ChainTime(2000)));
     assert_eq!(range.current_position, ExternalKey { anchor_id: 2, msgs_offset: 1 });
     assert_eq!(e.transaction().cache.len, 1);
-}
-
-/// Range 4 was read up to (1, 0). Anchors 1 and 2, at that end and past it, are expired; anchor 3 is not.
-fn read_before() -> Externals {
-    let mut e = sample();
-    e.add(MempoolAnchor { id: 3, chain_time: ChainTime(90_000), author: [9; 32] }, 1, &message(0)).unwrap();
-    let to = ExternalKey { anchor_id: 1, msgs_offset: 0 };
-    let mut range = Range { seqno: 4, to, chain_time: ChainTime(100_000), ..Range::default() };
-    range.by_partitions[0].present = true;
-    let state = &mut e.reader_mut().reader_state;
-    (state.ranges[0], state.len) = (range, 1);
-    e.open().unwrap();
-    e
-}
-
-#[test]
-fn a_strict_read_of_one_range() {
-    let read = |to_previous, strict| {
-        let mut e = read_before();
-        let (mut range, settings) = (e.ranges()[0], settings(&e, to_previous, strict));
-        let a = e.read_externals_into_buffers(&mut range, settings, &[], &mut [0; ENTRY_BYTES]).unwrap();
-        (a, range, e.transaction().cache.len)
-    };
-    let (a, range, cached) = read(true, false);
-    assert_eq!((a.last_chain_time.time, a.counts.expired[0], a.pops, cached), (ChainTime(90_000), 3, 2, 1));
-    assert_eq!((range.to, range.fully_read), (ExternalKey { anchor_id: 2, msgs_offset: 0 }, true));
-    let (a, range, cached) = read(true, true);
-    assert_eq!((a.last_chain_time.time, a.counts, a.pops, cached), (ChainTime(1000), Counts::default(), 0, 3));
-    assert_eq!(range, Range { fully_read: true, ..read_before().ranges()[0] });
-    assert_eq!(read(false, true), read(false, false));
-}
-
-#[test]
-fn a_strict_refill_does_not_grow_a_range() {
-    for (strict, expired, to, last) in [(false, 3, 2, 90_000), (true, 0, 1, 1000)] {
-        let mut e = read_before();
-        let (counts, free, _) = e.read_into_buffers(Mode::Refill, strict, &[], &mut []).unwrap();
-        assert_eq!((counts.expired[0], free), (expired, Some(2)));
-        let (r, state) = (e.ranges()[0], e.reader().reader_state);
-        assert_eq!((r.to, r.fully_read), (ExternalKey { anchor_id: to, msgs_offset: 0 }, true));
-        assert_eq!(state.last_read_to_anchor_chain_time, SavedTime { present: true, time: ChainTime(last) });
-    }
 }
 
 /// Limits 4 and 9, no message in a buffer yet; the range that the reader will make.
@@ -176,10 +133,10 @@ fn free_places_of_a_read() {
     let mut out = vec![0; 1024 * ENTRY_BYTES];
     e.open().unwrap();
     // no range yet: a refill reads none; nor does a read once the mark is set
-    assert_eq!(e.read_into_buffers(Mode::Refill, false, &[], &mut out).unwrap().1, None);
-    assert_eq!(e.read_into_buffers(Mode::Continue, false, &[], &mut out).unwrap().1, None);
+    assert_eq!(e.read_into_buffers(Mode::Refill, &[], &mut out).unwrap().1, None);
+    assert_eq!(e.read_into_buffers(Mode::Continue, &[], &mut out).unwrap().1, None);
     e.reset_read_state().unwrap();
-    assert_eq!(e.read_into_buffers(Mode::Continue, false, &[], &mut out).unwrap().1, Some(1));
+    assert_eq!(e.read_into_buffers(Mode::Continue, &[], &mut out).unwrap().1, Some(1));
     assert_eq!(get_max_buffers_fill_state(limits, e.ranges()[0]), Ok(1));
     e.messages_taken(5, 0, 2).unwrap();
     assert_eq!(get_max_buffers_fill_state(limits, e.ranges()[0]), Ok(3));
@@ -215,12 +172,12 @@ fn parts_that_do_not_fit() {
     let mut e = sample();
     let t = &mut e.parts_mut().unwrap().0.transaction;
     (t.active, t.cache.first) = (true, usize::MAX);
-    assert_eq!(e.read_into_buffers(Mode::Continue, false, &[], &mut out).unwrap_err(), Refused(5));
+    assert_eq!(e.read_into_buffers(Mode::Continue, &[], &mut out).unwrap_err(), Refused(5));
     assert_eq!(e.close(), Err(Refused(5)));
     let mut e = sample();
     e.open().unwrap();
     e.reader_mut().reader_state.len = usize::MAX;
-    assert_eq!(e.read_into_buffers(Mode::Continue, false, &[], &mut out).unwrap_err(), Refused(5));
+    assert_eq!(e.read_into_buffers(Mode::Continue, &[], &mut out).unwrap_err(), Refused(5));
     assert_eq!((e.finalize(), e.has_messages_in_buffers()), (Err(Refused(5)), Err(Refused(5))));
     assert!(out.iter().all(|&b| b == 9));
 }

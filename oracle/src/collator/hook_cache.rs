@@ -1,5 +1,5 @@
 //! Looks at the private parts of the cache and of its transaction. Nothing here changes them
-//! except by the original functions, apart from `put_history`, `put_cached`, `cut` and `put_back`.
+//! except by the original functions, apart from `put_history` and `put_cached`.
 
 use super::*;
 
@@ -57,21 +57,6 @@ pub fn fork<'c>(
     copy: &'c mut AnchorsCache,
 ) -> AnchorsCacheTransaction<'c> {
     AnchorsCacheTransaction { cache: copy, undo_log: tx.undo_log.clone(), committed: tx.committed }
-}
-/// Id and chain time of each cached anchor, front first.
-pub fn cached_times(tx: &AnchorsCacheTransaction<'_>) -> Vec<(MempoolAnchorId, u64)> {
-    tx.cache.cache.iter().map(|(id, ca)| (*id, ca.anchor.chain_time)).collect()
-}
-/// Cached anchors that are out of the cache for the time of a read.
-pub struct Tail(VecDeque<(MempoolAnchorId, CachedAnchor)>);
-/// Takes the anchors from the `at`-th on out of an open transaction's cache, unseen by its undo log.
-pub fn cut(tx: &mut AnchorsCacheTransaction<'_>, at: usize) -> Tail {
-    Tail(tx.cache.cache.split_off(at))
-}
-/// Puts them behind what is left. Pending is set again, since the pop of the last one before them has unset it.
-pub fn put_back(tx: &mut AnchorsCacheTransaction<'_>, mut tail: Tail) {
-    tx.cache.has_pending_externals |= !tail.0.is_empty();
-    tx.cache.cache.append(&mut tail.0);
 }
 /// A message's 33 bytes, workchain first.
 pub fn message_bytes(m: &crate::mempool::ExternalMessage) -> [u8; 33] {

@@ -6,7 +6,7 @@ abbrev invariant-loop : tie.invariant-loop
 invariant-loop name c line₀ at₀ which₀ line at which = Unit
 
 abbrev decreases-loop : tie.decreases-loop
-decreases-loop name c line₀ at₀ which₀ line at which = 32 - which
+decreases-loop name c line₀ at₀ which₀ line at which = 30 - which
 
 slice-aggregate-put : tie.Need-slice-aggregate-put invariant-loop decreases-loop
 slice-aggregate-put c = search rules

@@ -18,7 +18,7 @@ answered-requires c κs = search rules
 returns : tie.Need-returns
 returns c =
     let c-args = c.before.before.before.before.before.before.before.args in
-    call_refused c-args.tables.now c-args.area.now c-args.t c-args.routes.now c-args.reader c-args.mode c-args.strict c-args.out.now _ c.before.before.asked-of-read.ensures c.before.if1.true _ c.answered.ensures
+    call_refused c-args.tables.now c-args.area.now c-args.t c-args.routes.now c-args.reader c-args.mode c-args.out.now _ c.before.before.asked-of-read.ensures c.before.if1.true _ c.answered.ensures
 
 answered-requires-2 : tie.Need-answered-requires-2
 answered-requires-2 c κs = search rules
@@ -26,12 +26,12 @@ answered-requires-2 c κs = search rules
 returns-2 : tie.Need-returns-2
 returns-2 c =
     let c-args = c.before.before.before.before.before.before.before.before.args in
-    call_idle c-args.tables.now c-args.area.now c-args.t c-args.routes.now c-args.reader c-args.mode c-args.strict c-args.out.now _ c.before.before.before.asked-of-read.ensures c.before.before.if1.false c.before.if2.true _ c.answered2.ensures
+    call_idle c-args.tables.now c-args.area.now c-args.t c-args.routes.now c-args.reader c-args.mode c-args.out.now _ c.before.before.before.asked-of-read.ensures c.before.before.if1.false c.before.if2.true _ c.answered2.ensures
 
 last-imported-requires : tie.Need-last-imported-requires
 last-imported-requires c κs =
     let c-args = c.before.before.before.before.before.before.before.before.args in
-    call_history c-args.tables.now c-args.area.now c-args.t c-args.routes.now c-args.reader c-args.mode c-args.strict c-args.out.now _ c.before.before.before.asked-of-read.ensures c.before.before.if1.false
+    call_history c-args.tables.now c-args.area.now c-args.t c-args.routes.now c-args.reader c-args.mode c-args.out.now _ c.before.before.before.asked-of-read.ensures c.before.before.if1.false
 
 fixed-at-entry-requires : tie.Need-fixed-at-entry-requires
 fixed-at-entry-requires c κs = search rules
@@ -40,7 +40,7 @@ ranges-read-requires : tie.Need-ranges-read-requires
 ranges-read-requires c κs =
     let c-args = c.before.before.before.before.before.before.before.before.before.before.before.before.before.args in
     let c-fixed-at-entry = c.before.before.before.fixed-at-entry in
-    call_start c-args.tables.now c-args.area.now c-args.t c-args.routes.now c-args.reader c-args.mode c-args.strict c-args.out.now _ c.before.before.before.before.before.before.before.before.asked-of-read.ensures c.before.before.before.before.before.before.before.if1.false c.before.before.before.before.before.before.if2.false _ (c-fixed-at-entry.ensures.0 ∙ ap (λ (e : Imported). fixed_of c-args.reader c-args.mode c-args.strict e (length c-args.out.now)) c.before.before.before.before.last-imported.ensures) c-fixed-at-entry.ensures.1
+    call_start c-args.tables.now c-args.area.now c-args.t c-args.routes.now c-args.reader c-args.mode c-args.out.now _ c.before.before.before.before.before.before.before.before.asked-of-read.ensures c.before.before.before.before.before.before.before.if1.false c.before.before.before.before.before.before.if2.false _ (c-fixed-at-entry.ensures.0 ∙ ap (λ (e : Imported). fixed_of c-args.reader c-args.mode e (length c-args.out.now)) c.before.before.before.before.last-imported.ensures) c-fixed-at-entry.ensures.1
 
 answered-requires-3 : tie.Need-answered-requires-3
 answered-requires-3 c κs = search rules
@@ -51,7 +51,7 @@ same_length c = search rules
 returns-3 : tie.Need-returns-3
 returns-3 c =
     let c-args = c.before.before.before.before.before.before.before.before.before.before.before.before.before.before.before.before.before.before.before.before.args in
-    call_stopped c-args.tables.now c-args.area.now c-args.t c-args.routes.now c-args.reader c-args.mode c-args.strict c-args.out.now _ c.before.before.before.before.before.before.before.before.before.before.before.before.before.before.before.asked-of-read.ensures c.before.before.before.before.before.before.before.before.before.before.before.before.before.before.if1.false c.before.before.before.before.before.before.before.before.before.before.before.before.before.if2.false _ (c.before.before.before.before.before.before.before.before.before.before.fixed-at-entry.ensures.0 ∙ ap (λ (e : Imported). fixed_of c-args.reader c-args.mode c-args.strict e (length c-args.out.now)) c.before.before.before.before.before.before.before.before.before.before.before.last-imported.ensures) _ _ c.before.before.before.before.before.before.ranges-read.ensures c.before.if3.true _ c.answered3.ensures
+    call_stopped c-args.tables.now c-args.area.now c-args.t c-args.routes.now c-args.reader c-args.mode c-args.out.now _ c.before.before.before.before.before.before.before.before.before.before.before.before.before.before.before.asked-of-read.ensures c.before.before.before.before.before.before.before.before.before.before.before.before.before.before.if1.false c.before.before.before.before.before.before.before.before.before.before.before.before.before.if2.false _ (c.before.before.before.before.before.before.before.before.before.before.fixed-at-entry.ensures.0 ∙ ap (λ (e : Imported). fixed_of c-args.reader c-args.mode e (length c-args.out.now)) c.before.before.before.before.before.before.before.before.before.before.before.last-imported.ensures) _ _ c.before.before.before.before.before.before.ranges-read.ensures c.before.if3.true _ c.answered3.ensures
 
 answer-of-requires : tie.Need-answer-of-requires
 answer-of-requires c κs = search rules
@@ -63,13 +63,13 @@ returns-4 : tie.Need-returns-4
 returns-4 c =
     let c-args = c.before.before.before.before.before.before.before.before.before.before.before.before.before.before.before.before.before.before.before.before.before.before.args in
     let c-fixed-at-entry = c.before.before.before.before.before.before.before.before.before.before.before.before.fixed-at-entry in
-    call_silent c-args.tables.now c-args.area.now c-args.t c-args.routes.now c-args.reader c-args.mode c-args.strict c-args.out.now _ c.before.before.before.before.before.before.before.before.before.before.before.before.before.before.before.before.before.asked-of-read.ensures c.before.before.before.before.before.before.before.before.before.before.before.before.before.before.before.before.if1.false c.before.before.before.before.before.before.before.before.before.before.before.before.before.before.before.if2.false _ (c-fixed-at-entry.ensures.0 ∙ ap (λ (e : Imported). fixed_of c-args.reader c-args.mode c-args.strict e (length c-args.out.now)) c.before.before.before.before.before.before.before.before.before.before.before.before.before.last-imported.ensures) _ _ c.before.before.before.before.before.before.before.before.ranges-read.ensures c-fixed-at-entry.ensures.1 c.before.before.before.if3.false c.before.if4.true _ c.answer-of.ensures
+    call_silent c-args.tables.now c-args.area.now c-args.t c-args.routes.now c-args.reader c-args.mode c-args.out.now _ c.before.before.before.before.before.before.before.before.before.before.before.before.before.before.before.before.before.asked-of-read.ensures c.before.before.before.before.before.before.before.before.before.before.before.before.before.before.before.before.if1.false c.before.before.before.before.before.before.before.before.before.before.before.before.before.before.before.if2.false _ (c-fixed-at-entry.ensures.0 ∙ ap (λ (e : Imported). fixed_of c-args.reader c-args.mode e (length c-args.out.now)) c.before.before.before.before.before.before.before.before.before.before.before.before.before.last-imported.ensures) _ _ c.before.before.before.before.before.before.before.before.ranges-read.ensures c-fixed-at-entry.ensures.1 c.before.before.before.if3.false c.before.if4.true _ c.answer-of.ensures
 
 ranges-read-requires-2 : tie.Need-ranges-read-requires-2
 ranges-read-requires-2 c κs =
     let c-args = c.before.before.before.before.before.before.before.before.before.before.before.before.before.before.before.before.before.before.before.before.before.before.args in
     let c-fixed-at-entry = c.before.before.before.before.before.before.before.before.before.before.before.before.fixed-at-entry in
-    call_again c-args.tables.now c-args.area.now c-args.t c-args.routes.now c-args.reader c-args.mode c-args.strict c-args.out.now _ c.before.before.before.before.before.before.before.before.before.before.before.before.before.before.before.before.before.asked-of-read.ensures c.before.before.before.before.before.before.before.before.before.before.before.before.before.before.before.before.if1.false c.before.before.before.before.before.before.before.before.before.before.before.before.before.before.before.if2.false _ (c-fixed-at-entry.ensures.0 ∙ ap (λ (e : Imported). fixed_of c-args.reader c-args.mode c-args.strict e (length c-args.out.now)) c.before.before.before.before.before.before.before.before.before.before.before.before.before.last-imported.ensures) _ _ c.before.before.before.before.before.before.before.before.ranges-read.ensures c-fixed-at-entry.ensures.1
+    call_again c-args.tables.now c-args.area.now c-args.t c-args.routes.now c-args.reader c-args.mode c-args.out.now _ c.before.before.before.before.before.before.before.before.before.before.before.before.before.before.before.before.before.asked-of-read.ensures c.before.before.before.before.before.before.before.before.before.before.before.before.before.before.before.before.if1.false c.before.before.before.before.before.before.before.before.before.before.before.before.before.before.before.if2.false _ (c-fixed-at-entry.ensures.0 ∙ ap (λ (e : Imported). fixed_of c-args.reader c-args.mode e (length c-args.out.now)) c.before.before.before.before.before.before.before.before.before.before.before.before.before.last-imported.ensures) _ _ c.before.before.before.before.before.before.before.before.ranges-read.ensures c-fixed-at-entry.ensures.1
 
 answer-of-requires-2 : tie.Need-answer-of-requires-2
 answer-of-requires-2 c κs = search rules
@@ -80,7 +80,7 @@ same-length-3 c = wrote_length _ _ _ _ _ _ c.before.before.before.ranges-read2.e
 returns-5 : tie.Need-returns-5
 returns-5 c =
     let c-args = c.before.before.before.before.before.before.before.before.before.before.before.before.before.before.before.before.before.before.before.before.before.before.before.before.before.before.args in
-    call_done c-args.tables.now c-args.area.now c-args.t c-args.routes.now c-args.reader c-args.mode c-args.strict c-args.out.now _ c.before.before.before.before.before.before.before.before.before.before.before.before.before.before.before.before.before.before.before.before.before.asked-of-read.ensures c.before.before.before.before.before.before.before.before.before.before.before.before.before.before.before.before.before.before.before.before.if1.false c.before.before.before.before.before.before.before.before.before.before.before.before.before.before.before.before.before.before.before.if2.false _ (c.before.before.before.before.before.before.before.before.before.before.before.before.before.before.before.before.fixed-at-entry.ensures.0 ∙ ap (λ (e : Imported). fixed_of c-args.reader c-args.mode c-args.strict e (length c-args.out.now)) c.before.before.before.before.before.before.before.before.before.before.before.before.before.before.before.before.before.last-imported.ensures) _ _ c.before.before.before.before.before.before.before.before.before.before.before.before.ranges-read.ensures c.before.before.before.before.before.before.before.if3.false _ _ c.before.before.before.ranges-read2.ensures _ c.answer-of2.ensures
+    call_done c-args.tables.now c-args.area.now c-args.t c-args.routes.now c-args.reader c-args.mode c-args.out.now _ c.before.before.before.before.before.before.before.before.before.before.before.before.before.before.before.before.before.before.before.before.before.asked-of-read.ensures c.before.before.before.before.before.before.before.before.before.before.before.before.before.before.before.before.before.before.before.before.if1.false c.before.before.before.before.before.before.before.before.before.before.before.before.before.before.before.before.before.before.before.if2.false _ (c.before.before.before.before.before.before.before.before.before.before.before.before.before.before.before.before.fixed-at-entry.ensures.0 ∙ ap (λ (e : Imported). fixed_of c-args.reader c-args.mode e (length c-args.out.now)) c.before.before.before.before.before.before.before.before.before.before.before.before.before.before.before.before.before.last-imported.ensures) _ _ c.before.before.before.before.before.before.before.before.before.before.before.before.ranges-read.ensures c.before.before.before.before.before.before.before.if3.false _ _ c.before.before.before.ranges-read2.ensures _ c.answer-of2.ensures
 
 pub read_into_buffers_spec : {M : Type 1} → statement M
 read_into_buffers_spec =

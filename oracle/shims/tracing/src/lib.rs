@@ -1,8 +1,7 @@
 //! Shim of `tracing`: the event macros drop their arguments and count one step.
 //! The count bounds a walk that never ends (the text calls an event macro in
-//! every turn of its loop), without a change in the text. Three events of the text are noted. From two the
-//! range that was read last is known: a range is tried, with its seqno, and a range's read begins. The third
-//! is that a range's read found no next anchor.
+//! every turn of its loop), without a change in the text. Two events of the text are noted, from which
+//! the range that was read last is known: a range is tried, with its seqno, and a range's read begins.
 use std::cell::Cell;
 
 pub use tracing_attr_shim::instrument;
@@ -14,24 +13,17 @@ thread_local! {
     static LEFT: Cell<u64> = const { Cell::new(u64::MAX) };
     static TRIED: Cell<Option<u32>> = const { Cell::new(None) };
     static READ: Cell<Option<u32>> = const { Cell::new(None) };
-    static NONE_LEFT: Cell<bool> = const { Cell::new(false) };
 }
 
 /// Forgets what was noted in this thread.
 pub fn forget() {
     TRIED.set(None);
     READ.set(None);
-    NONE_LEFT.set(false);
 }
 
 /// The last range that was tried and whose read began, since `forget`.
 pub fn last_range_read() -> Option<u32> {
     READ.get()
-}
-
-/// Whether a range's read found no next anchor, since `forget`.
-pub fn none_left() -> bool {
-    NONE_LEFT.get()
 }
 
 #[doc(hidden)]
@@ -42,11 +34,6 @@ pub fn tried(seqno: u32) {
 #[doc(hidden)]
 pub fn began() {
     READ.set(TRIED.get());
-}
-
-#[doc(hidden)]
-pub fn no_next() {
-    NONE_LEFT.set(true);
 }
 
 /// Allows `n` more steps in this thread.
@@ -79,10 +66,6 @@ macro_rules! trace {
 }
 #[macro_export]
 macro_rules! debug {
-    (target: $t:expr, "no next entry in anchors cache" $(,)?) => {{
-        $crate::no_next();
-        $crate::step()
-    }};
     ($($t:tt)*) => {
         $crate::step()
     };

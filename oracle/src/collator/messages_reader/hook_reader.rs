@@ -15,8 +15,6 @@ use crate::questions::MAX_LIMIT;
 
 #[path = "hook_bench.rs"]
 pub mod bench;
-#[path = "hook_strict.rs"]
-mod strict;
 
 pub struct Settings {
     pub next_chain_time: u64,

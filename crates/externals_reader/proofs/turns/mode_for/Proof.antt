@@ -1,7 +1,6 @@
 use Rattle.reader_rules.specs.Rules.{mode_for}
 use Prim.Native.Nat.{◌-◌}
 use borrow.Author.Tests.{eq-eqb, ne_eqb}
-use borrow.Author.Rules.{rules}
 use Rattle.externals_reader.proofs.turns.mode_for.Statement.{statement}
 use Rattle.externals_reader.proofs.turns.mode_for.Tie as tie
 
@@ -9,12 +8,9 @@ returns : tie.Need-returns
 unfolding mode_for
 returns c = rw (eq-eqb _ _ c.if1.true)
 
-previous-mode-requires : tie.Need-previous-mode-requires
-previous-mode-requires c κs = search rules
-
 returns-2 : tie.Need-returns-2
 unfolding mode_for
-returns-2 c = rw (ne_eqb _ _ c.before.if1.false) c.previous-mode.ensures
+returns-2 c = rw (ne_eqb _ _ c.if1.false)
 
 pub mode_for_spec : {M : Type 1} → statement M
-mode_for_spec = tie.close (tie.spec returns previous-mode-requires returns-2)
+mode_for_spec = tie.close (tie.spec returns returns-2)

@@ -42,8 +42,8 @@ returns c =
     } in
     let e =
     c-read-into-buffers.ensures
-    ∙ ap (λ (r : ExternalsReader). read_all_call x.tables.now x.area.now x.e.transaction x.routes.now r c-group-mode.result x.strict x.out.now) c.before.before.before.before.before.before.before.before.before.reader-of.ensures
-    ∙ ap (λ (m : GetNextMessageGroupMode). read_all_call x.tables.now x.area.now x.e.transaction x.routes.now (reader_of x.e.reader) m x.strict x.out.now) c-group-mode.ensures
+    ∙ ap (λ (r : ExternalsReader). read_all_call x.tables.now x.area.now x.e.transaction x.routes.now r c-group-mode.result x.out.now) c.before.before.before.before.before.before.before.before.before.reader-of.ensures
+    ∙ ap (λ (m : GetNextMessageGroupMode). read_all_call x.tables.now x.area.now x.e.transaction x.routes.now (reader_of x.e.reader) m x.out.now) c-group-mode.ensures
     in (
       ap (λ (f : Free). shown f c.before.left-reader.result) c.Free-of.ensures
           ∙ ap (shown (free_of a.free)) c.before.left-reader.ensures

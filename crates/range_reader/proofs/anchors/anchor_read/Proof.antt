@@ -1,6 +1,7 @@
 -- Each return is one case of a look at an anchor; the rest of its messages is a part of the area within its bounds.
 use lib.ListN.{length-take, length-drop}
-use Rattle.range_rules.proofs.Counts.{within_up}
+use Rattle.range_rules.specs.Rules.{looked}
+use Rattle.range_rules.proofs.Counts.{weaker, within_up}
 use Rattle.range_reader.proofs.AnchorLaws.{anchor_popped, anchor_expired, anchor_past, anchor_walked, within_looked, looked_reached}
 use Prim.Native.Nat.{◌-◌}
 use mathlib.Core.Path.{sym, ◌∙◌}
@@ -91,22 +92,25 @@ sub-n c =
 is-expired-requires : tie.Need-is-expired-requires
 is-expired-requires c κs = search rules
 
-expired-read-requires : tie.Need-expired-read-requires
-expired-read-requires c κs =
-    let c-pre = c.before.before.before.before.before.before.before.before.before.before.before.before.before.before.before.before.before.before.before.requires in
-    let c-first-unread = c.before.before.before.before.before.before.before.before.first-unread in
-    let c-args = c.before.before.before.before.before.before.before.before.before.before.before.before.before.before.before.before.before.before.before.args in
+count-expired-requires : tie.Need-count-expired-requires
+count-expired-requires c κs =
+    let c-pre = c.before.before.before.before.before.before.before.before.before.before.before.before.before.before.before.before.before.before.before.before.before.before.requires in
+    let c-first-unread = c.before.before.before.before.before.before.before.before.before.before.before.first-unread in
+    let c-args = c.before.before.before.before.before.before.before.before.before.before.before.before.before.before.before.before.before.before.before.before.before.before.args in
     let p = c-pre.placed in
     let f = c-first-unread.ensures.1 in
     let n = c-pre.few.few in
-    (c-pre.fixed.shard_sound, c-pre.fixed.routes_sound, simp (length-take, length-drop) (omega arith), record { few = omega arith; within = rw c.before.before.before.before.before.before.before.before.before.before.before.looked.ensures (within_up c-args.x (max_messages - c-args.a.count) _ (within_looked c-args.x _ c-args.a.id c-args.r.walk c-pre.few.within) _ (omega arith)) }, c-pre.pops)
+    (c-pre.fixed.shard_sound, c-pre.fixed.routes_sound, simp (length-take, length-drop) (omega arith), omega arith, rw c.before.before.before.before.before.before.before.before.before.before.before.before.before.before.looked.ensures (weaker (looked c-args.x c-args.a.id c-args.r.walk).counts.expired (max_messages - c-args.a.count) (max_messages - (c-args.a.count - c-first-unread.result)) (omega arith) (within_looked c-args.x (max_messages - c-args.a.count) c-args.a.id c-args.r.walk c-pre.few.within).expired))
+
+expired-requires : tie.Need-expired-requires
+expired-requires c κs = c.before.before.before.before.before.before.before.before.before.before.before.before.before.before.before.before.before.before.before.before.before.before.before.requires.pops
 
 returns-2 : tie.Need-returns-2
 returns-2 c =
-    let c-args = c.before.before.before.before.before.before.before.before.before.before.before.before.before.before.before.before.before.before.before.before.args in
-    let c-looked = c.before.before.before.before.before.before.before.before.before.before.before.before.looked in
-    let c-first-unread = c.before.before.before.before.before.before.before.before.before.first-unread in
-    anchor_expired c-args.x c-args.routes.now c-args.area.now c-args.a.id c-args.a.chain_time c-args.a.place c-args.a.count c-args.r c-args.write c-args.out.now c-looked.result c-first-unread.result c.before.before.before.before.before.before.before.before.before.before.before.before.before.before.if1.false c-looked.ensures c-first-unread.ensures.0 c-first-unread.ensures.1 _ _ (sym c.before.before.is-expired.ensures ∙ c.before.if2.true) c.expired-read.ensures
+    let c-args = c.before.before.before.before.before.before.before.before.before.before.before.before.before.before.before.before.before.before.before.before.before.before.before.before.args in
+    let c-looked = c.before.before.before.before.before.before.before.before.before.before.before.before.before.before.before.before.looked in
+    let c-first-unread = c.before.before.before.before.before.before.before.before.before.before.before.before.before.first-unread in
+    anchor_expired c-args.x c-args.routes.now c-args.area.now c-args.a.id c-args.a.chain_time c-args.a.place c-args.a.count c-args.r c-args.write c-args.out.now c-looked.result c-first-unread.result c.before.before.before.before.before.before.before.before.before.before.before.before.before.before.before.before.before.before.if1.false c-looked.ensures c-first-unread.ensures.0 c-first-unread.ensures.1 _ _ _ (sym c.before.before.before.before.before.before.is-expired.ensures ∙ c.before.before.before.before.before.if2.true) c.before.count-expired.ensures c.expired.ensures
 
 finished-requires : tie.Need-finished-requires
 finished-requires c κs = c.before.before.before.before.before.before.before.before.before.before.before.before.before.before.before.before.before.before.before.before.before.requires.pops
@@ -158,7 +162,8 @@ anchor_read_spec =
     part-rest-end
     sub-n
     is-expired-requires
-    expired-read-requires
+    count-expired-requires
+    expired-requires
     returns-2
     finished-requires
     returns-3

@@ -15,12 +15,6 @@ enum-told-2 c = search rules
 saved-end-before-requires : tie.Need-saved-end-before-requires
 saved-end-before-requires c κs = search rules
 
-enum-told-3 : tie.Need-enum-told-3
-enum-told-3 c = search rules
-
-saved-end-before-requires-2 : tie.Need-saved-end-before-requires-2
-saved-end-before-requires-2 c κs = search rules
-
 returns : tie.Need-returns
 returns c = search rules
 
@@ -29,10 +23,5 @@ returns-2 c =
     let c-args = c.before.before.before.args in
     c.saved-end-before.ensures ∙ sym (ap (λ (mode : ReadNextExternalsMode). walk_end mode c-args.end c-args.key c-args.last) c.before.enum-told2.given.1)
 
-returns-3 : tie.Need-returns-3
-returns-3 c =
-    let c-args = c.before.before.before.args in
-    c.saved-end-before2.ensures ∙ sym (ap (λ (mode : ReadNextExternalsMode). walk_end mode c-args.end c-args.key c-args.last) c.before.enum-told3.given.1)
-
 pub walk_end_spec : {M : Type 1} → statement M
-walk_end_spec = tie.close (tie.spec enum_told enum-told-2 saved-end-before-requires enum-told-3 saved-end-before-requires-2 returns returns-2 returns-3)
+walk_end_spec = tie.close (tie.spec enum_told enum-told-2 saved-end-before-requires returns returns-2)
