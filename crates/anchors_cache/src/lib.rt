@@ -1,6 +1,8 @@
 // The anchors cache and its transaction. The tables and the message area are lent by the host; the cache by value is a
 // window on them.
 // Every call asks document 01's questions of what it is handed; a refused call answers the number and changes nothing.
+#![tactic(auto)]
+
 ghost use Rattle.std.specs.Prelude.{◌≡◌, ◌+◌, ◌*◌, ◌<◌, ◌≤◌, length};
 ghost use Rattle.rows.specs.Rows.{pick};
 ghost use Rattle.cache_rules.specs.Rules.{max_history, max_anchors, last_of};
@@ -25,7 +27,7 @@ pub const TABLES_BYTES: usize = HISTORY_BYTES + ANCHOR_BYTES;
 // Where the cached anchors and the imported history stand in the tables, and the first cached message in the area, in
 // rows and messages.
 #[repr(C)]
-#[derive(Drop)]
+#[derive(Clone, Copy)]
 pub struct AnchorsCache {
     pub first: usize,
     pub len: usize,
@@ -37,7 +39,7 @@ pub struct AnchorsCache {
 
 // `undo` is what a rollback restores; it and the mark mean nothing while no transaction is open.
 #[repr(C)]
-#[derive(Drop)]
+#[derive(Clone, Copy)]
 pub struct AnchorsCacheTransaction {
     pub cache: AnchorsCache,
     pub undo: AnchorsCache,
@@ -47,7 +49,7 @@ pub struct AnchorsCacheTransaction {
 
 // An anchor as it is imported, beside its messages.
 #[repr(C)]
-#[derive(Drop)]
+#[derive(Clone, Copy)]
 pub struct MempoolAnchor {
     pub id: u32,
     pub chain_time: ChainTime,
@@ -56,7 +58,7 @@ pub struct MempoolAnchor {
 
 // A cached anchor; its `count` messages stand in the area from `place` on, in messages.
 #[repr(C)]
-#[derive(Drop)]
+#[derive(Clone, Copy)]
 pub struct CachedAnchor {
     pub id: u32,
     pub chain_time: ChainTime,
@@ -67,7 +69,7 @@ pub struct CachedAnchor {
 
 // An entry of the imported history.
 #[repr(C)]
-#[derive(Drop)]
+#[derive(Clone, Copy)]
 pub struct AnchorInfo {
     pub id: u32,
     pub ct: ChainTime,
@@ -75,39 +77,39 @@ pub struct AnchorInfo {
     pub our_exts_count: u32,
 }
 
-#[derive(Drop)]
+#[derive(Clone, Copy)]
 pub enum FoundAnchor {
     Anchor(CachedAnchor),
     Nothing,
 }
 
-#[derive(Drop)]
+#[derive(Clone, Copy)]
 pub enum FoundInfo {
     Info(AnchorInfo),
     Nothing,
 }
 
-#[derive(Drop)]
+#[derive(Clone, Copy)]
 pub enum FoundId {
     Id(u32, ChainTime),
     Nothing,
 }
 
 // The messages of some anchors, unless one of them is not as question 5 wants it.
-#[derive(Drop)]
+#[derive(Clone, Copy)]
 pub(crate) enum Total {
     Messages(usize),
     Unsound,
 }
 
 // Answers. The author stands beside the enum and is zero where there is none.
-#[derive(Drop)]
+#[derive(Clone, Copy)]
 pub struct Done {
     pub number: u8,
     pub state: AnchorsCacheTransaction,
 }
 
-#[derive(Drop)]
+#[derive(Clone, Copy)]
 pub struct Popped {
     pub number: u8,
     pub front: FoundAnchor,
@@ -115,7 +117,7 @@ pub struct Popped {
     pub state: AnchorsCacheTransaction,
 }
 
-#[derive(Drop)]
+#[derive(Clone, Copy)]
 pub struct Trimmed {
     pub number: u8,
     pub last: FoundInfo,
@@ -123,28 +125,28 @@ pub struct Trimmed {
     pub state: AnchorsCacheTransaction,
 }
 
-#[derive(Drop)]
+#[derive(Clone, Copy)]
 pub struct AnchorAnswer {
     pub number: u8,
     pub anchor: FoundAnchor,
     pub author: [u8; AUTHOR_BYTES],
 }
 
-#[derive(Drop)]
+#[derive(Clone, Copy)]
 pub struct InfoAnswer {
     pub number: u8,
     pub info: FoundInfo,
     pub author: [u8; AUTHOR_BYTES],
 }
 
-#[derive(Drop)]
+#[derive(Clone, Copy)]
 pub struct IdAnswer {
     pub number: u8,
     pub last: FoundId,
 }
 
 #[repr(C)]
-#[derive(Drop)]
+#[derive(Clone, Copy)]
 pub struct FlagAnswer {
     pub number: u8,
     pub flag: bool,

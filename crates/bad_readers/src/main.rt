@@ -1,4 +1,6 @@
 // Hands every call of the externals reader states that the questions refuse, and some that they must not (README.md).
+#![tactic(auto)]
+
 use state::Case;
 
 mod calls;

@@ -13,7 +13,7 @@ use shard_ident::ShardIdent;
 // `len` ranges; the seqno of the second; the seqno and the count of partition 0 in the sixth slot, which is free;
 // count, presence and limit of partition 3; whether partition 7 is there, and partition 0 in the last range and in the
 // reader. Then the settings, the call's arguments, and what is lent.
-#[derive(Drop)]
+#[derive(Clone, Copy)]
 pub struct Case {
     pub len: usize,
     pub second: u32,

@@ -4,7 +4,7 @@ use anchors_cache::{AnchorInfo, AnchorsCacheTransaction, Done, MempoolAnchor};
 use ext_types::{ChainTime, ExternalKey};
 
 // An anchor to be added, with so many bytes of messages.
-#[derive(Drop)]
+#[derive(Clone, Copy)]
 pub struct New {
     pub id: u32,
     pub ours: u32,

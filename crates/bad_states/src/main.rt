@@ -1,4 +1,6 @@
 // Hands every call of the anchors cache states that the questions refuse, and some that they must not (README.md).
+#![tactic(auto)]
+
 use anchors_cache::{AnchorsCache, AnchorsCacheTransaction};
 use calls::New;
 

@@ -1,5 +1,7 @@
 // Calls that take a struct by reference, and a search in a slice of structs: thin functions over calls that go by
 // value.
+#![tactic(auto)]
+
 ghost use Rattle.std.specs.Prelude.{◌≡◌, length, take, ◌<◌, ◌≤◌};
 ghost use Rattle.anchors_cache.specs.Calls.{pop_call, trim_call, open_call, commit_call, rollback_call, close_call};
 ghost use Rattle.by_reference.specs.Answers.{pop_answer_of, trim_answer_of, pop_parted, trim_parted, in_turn};
@@ -11,13 +13,13 @@ use ext_types::ChainTime;
 use router::{MAX_PARTITION, MAX_ROUTES, Routed};
 
 // What a thin call answers, and the transaction that it stores: the core's result in two parts.
-#[derive(Drop)]
+#[derive(Clone, Copy)]
 pub(crate) struct Popping {
     pub answer: AnchorAnswer,
     pub state: AnchorsCacheTransaction,
 }
 
-#[derive(Drop)]
+#[derive(Clone, Copy)]
 pub(crate) struct Trimming {
     pub answer: InfoAnswer,
     pub state: AnchorsCacheTransaction,
@@ -122,7 +124,7 @@ pub fn close(t: &mut AnchorsCacheTransaction, tables: &[u8], area: &[u8]) -> u8
 }
 
 // The six answers, in the order of the calls, and the transaction that they leave.
-#[derive(Drop)]
+#[derive(Clone, Copy)]
 pub struct InTurn {
     pub opened: u8,
     pub popped: AnchorAnswer,
@@ -155,7 +157,7 @@ pub fn in_turn(t: AnchorsCacheTransaction, tables: &[u8], area: &[u8], ct: Chain
     }
 }
 
-#[derive(Drop)]
+#[derive(Clone, Copy)]
 pub struct Route {
     pub workchain: i8,
     pub account: [u8; 32],
@@ -174,7 +176,7 @@ fn same_route(r: Route, workchain: i8, account: [u8; 32]) -> bool
 
 // What a walk over route records has come to: those so far, whether question 3 takes them, and the partition of the
 // first for the workchain and the account.
-#[derive(Drop)]
+#[derive(Clone, Copy)]
 pub(crate) struct Walk {
     pub routes: [Route; MAX_ROUTES],
     pub len: usize,

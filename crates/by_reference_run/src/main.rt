@@ -1,4 +1,6 @@
 // Runs the calls of `by_reference` on a small cache and on four routes (README.md).
+#![tactic(auto)]
+
 use anchors_cache::{
     AnchorAnswer, AnchorsCacheTransaction, FoundAnchor, FoundInfo, InfoAnswer, MempoolAnchor,
 };

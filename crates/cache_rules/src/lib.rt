@@ -1,4 +1,5 @@
 // No code: document 01's cache and its rules, on lists (specs/Rules), and laws about these rules (proofs).
+#![tactic(auto)]
 
 // The caps of document 01; each has its twin in specs/Rules.
 pub const MAX_ANCHORS: usize = 32;

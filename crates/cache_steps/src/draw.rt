@@ -2,7 +2,7 @@
 // the sum.
 ghost use Rattle.std.specs.Prelude.{◌<◌};
 
-#[derive(Drop)]
+#[derive(Clone, Copy)]
 pub struct Drawn {
     pub id: u32,
     pub ct: u64,

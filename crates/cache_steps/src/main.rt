@@ -1,4 +1,6 @@
 // A fixed list of 1,200 steps on the anchors cache. Its lines are those of the Rust original (README.md).
+#![tactic(auto)]
+
 ghost use Rattle.std.specs.Prelude.{◌≤◌};
 
 use anchors_cache::{
@@ -11,7 +13,7 @@ mod digest;
 mod draw;
 
 // What goes from step to step; `at` is how much of the output buffer is filled.
-#[derive(Drop)]
+#[derive(Clone, Copy)]
 struct Run {
     t: AnchorsCacheTransaction,
     next_id: u32,

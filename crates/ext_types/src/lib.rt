@@ -1,21 +1,23 @@
 // Time and keys of externals, each with a type of its own.
+#![tactic(auto)]
+
 ghost use Rattle.std.specs.Prelude.{◌≡◌};
 ghost use Rattle.ext_types.specs.Time.{millis_of, expired_at};
 ghost use Rattle.ext_types.specs.Keys.{key_above, key_equal};
 
 // An expiry timeout in whole seconds.
 #[repr(C)]
-#[derive(Drop)]
+#[derive(Clone, Copy)]
 pub struct Seconds(pub u32);
 
 // A chain time, or a span of it, in milliseconds.
 #[repr(C)]
-#[derive(Drop)]
+#[derive(Clone, Copy)]
 pub struct ChainTime(pub u64);
 
 // The place after a message that was read: the anchor's id and how many of its messages were read.
 #[repr(C)]
-#[derive(Drop)]
+#[derive(Clone, Copy)]
 pub struct ExternalKey {
     pub anchor_id: u32,
     pub msgs_offset: u64,

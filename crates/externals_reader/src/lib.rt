@@ -1,5 +1,7 @@
 // The externals reader: its ranges, its partitions, and the read of all ranges.
 // A refused call answers the number and leaves reader, transaction and every output byte as at entry.
+#![tactic(auto)]
+
 ghost use Rattle.std.specs.Prelude.{◌<◌, ◌^◌, ◌≡◌, []};
 ghost use Rattle.reader_rules.specs.State.{state_number, settings_number, open_ranges_limit_of, with_state, with_mark};
 ghost use Rattle.externals_reader.specs.Calls.{handed_in, new_call, reset_call, drop_last_call, set_limits_call, partition_ids_call, next_range_call, unchanged, reader_after, read_all_call};
@@ -21,7 +23,7 @@ mod ranges;
 mod turns;
 
 // The answer of a call that changes the reader.
-#[derive(Drop)]
+#[derive(Clone, Copy)]
 pub struct ReaderDone {
     pub number: u8,
     pub reader: ExternalsReader,
@@ -29,21 +31,21 @@ pub struct ReaderDone {
 
 // Which partitions there are.
 #[repr(C)]
-#[derive(Drop)]
+#[derive(Clone, Copy)]
 pub struct PartitionIds {
     pub number: u8,
     pub present: [bool; 8],
 }
 
 #[repr(C)]
-#[derive(Drop)]
+#[derive(Clone, Copy)]
 pub struct NextRange {
     pub number: u8,
     pub range: ExternalsRangeReaderState,
 }
 
 // `free` is what the last range read reported; `used` bytes of the output hold the entries.
-#[derive(Drop)]
+#[derive(Clone, Copy)]
 pub struct ReadIntoBuffers {
     pub number: u8,
     pub free: LastFree,
@@ -54,7 +56,7 @@ pub struct ReadIntoBuffers {
 }
 
 // A range after its turn, and what the read has come to with it.
-#[derive(Drop)]
+#[derive(Clone, Copy)]
 pub struct TurnDone {
     pub so_far: SoFar,
     pub range: ExternalsRangeReaderState,

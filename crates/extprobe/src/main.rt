@@ -1,4 +1,6 @@
 // Runs sessions of the cache's and the reader's calls, and prints what the Rust original prints for them (README.md).
+#![tactic(auto)]
+
 mod kinds;
 mod run;
 mod state;
@@ -7,7 +9,7 @@ use streams::Input;
 
 // The next session of a list: how many bytes it has, and whether it is one of extread's; or the list is over; or it
 // goes on and has no session that can be run.
-#[derive(Drop)]
+#[derive(Clone, Copy)]
 enum Framed {
     Bytes(usize, bool),
     End,

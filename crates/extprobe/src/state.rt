@@ -7,7 +7,7 @@ use session_rules::Session;
 // A session on its way; the next record begins at `from`; `plain`: only extread's records, and its lines; `cut`: what
 // follows the input at hand can't be read; `written`: no write failed.
 // Then what is lent to the calls: bytes of the message area, places of the output.
-#[derive(Drop)]
+#[derive(Clone, Copy)]
 pub struct Run {
     pub from: usize,
     pub plain: bool,

@@ -1,5 +1,7 @@
 // Runs the session on standard input and prints its lines (document 01, "Session program"). The input may be of any
 // length; it is read, and the text is written, in large pieces.
+#![tactic(auto)]
+
 use reader_rules::ExternalsReader;
 use records::Next;
 use session::Stepped;
@@ -7,7 +9,7 @@ use session_rules::Session;
 use streams::Input;
 
 // A session on its way, and the input that is at hand, from `from` to `end`.
-#[derive(Drop)]
+#[derive(Clone, Copy)]
 struct Run {
     session: Session,
     reader: ExternalsReader,

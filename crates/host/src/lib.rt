@@ -1,6 +1,8 @@
 // The calls for a host in C or Rust, each under its plain name: what a call changes it is lent by reference, what it
 // only looks at it takes by value.
 // A refused call answers the number and leaves every state and lent byte as at entry.
+#![tactic(auto)]
+
 ghost use Rattle.std.specs.Prelude.{◌≡◌, length};
 ghost use Rattle.shard_ident.specs.Shard.{contains_message};
 ghost use Rattle.router.specs.Router.{routes_number, get_partition};
@@ -25,7 +27,7 @@ mod shapes;
 
 // A chain time, where there is one.
 #[repr(C)]
-#[derive(Drop)]
+#[derive(Clone, Copy)]
 pub struct SavedTime {
     pub present: bool,
     pub time: ChainTime,
@@ -33,7 +35,7 @@ pub struct SavedTime {
 
 // The reader's state, with the saved chain time as a mark and a time.
 #[repr(C)]
-#[derive(Drop)]
+#[derive(Clone, Copy)]
 pub struct ReaderState {
     pub ranges: [ExternalsRangeReaderState; MAX_RANGES],
     pub len: usize,
@@ -42,7 +44,7 @@ pub struct ReaderState {
 }
 
 #[repr(C)]
-#[derive(Drop)]
+#[derive(Clone, Copy)]
 pub struct Reader {
     pub for_shard_id: ShardIdent,
     pub block_seqno: u32,
@@ -55,7 +57,7 @@ pub struct Reader {
 
 // What a read of all ranges changes.
 #[repr(C)]
-#[derive(Drop)]
+#[derive(Clone, Copy)]
 pub struct Externals {
     pub transaction: AnchorsCacheTransaction,
     pub reader: Reader,
@@ -63,7 +65,7 @@ pub struct Externals {
 
 // What a read of one range changes.
 #[repr(C)]
-#[derive(Drop)]
+#[derive(Clone, Copy)]
 pub struct RangeAndCache {
     pub transaction: AnchorsCacheTransaction,
     pub range: ExternalsRangeReaderState,
@@ -71,7 +73,7 @@ pub struct RangeAndCache {
 
 // What a read of one range is told beside the routes. `to_previous`: only to the end that was read to before.
 #[repr(C)]
-#[derive(Drop)]
+#[derive(Clone, Copy)]
 pub struct RangeSettings {
     pub shard: ShardIdent,
     pub limits: [u16; 8],
@@ -82,21 +84,21 @@ pub struct RangeSettings {
 
 // A history entry with its author.
 #[repr(C)]
-#[derive(Drop)]
+#[derive(Clone, Copy)]
 pub struct HistoryEntry {
     pub info: AnchorInfo,
     pub author: [u8; AUTHOR_BYTES],
 }
 
 #[repr(C)]
-#[derive(Drop)]
+#[derive(Clone, Copy)]
 pub struct BufferLimits {
     pub by_partitions: [u16; 8],
 }
 
 // Answers.
 #[repr(C)]
-#[derive(Drop)]
+#[derive(Clone, Copy)]
 pub struct AnchorShown {
     pub number: u8,
     pub found: bool,
@@ -105,7 +107,7 @@ pub struct AnchorShown {
 }
 
 #[repr(C)]
-#[derive(Drop)]
+#[derive(Clone, Copy)]
 pub struct InfoShown {
     pub number: u8,
     pub found: bool,
@@ -114,7 +116,7 @@ pub struct InfoShown {
 }
 
 #[repr(C)]
-#[derive(Drop)]
+#[derive(Clone, Copy)]
 pub struct PartitionShown {
     pub number: u8,
     pub partition: u8,
@@ -122,14 +124,14 @@ pub struct PartitionShown {
 
 // The free places that the last range read reported; not present where none was read.
 #[repr(C)]
-#[derive(Drop)]
+#[derive(Clone, Copy)]
 pub struct Free {
     pub present: bool,
     pub places: u16,
 }
 
 #[repr(C)]
-#[derive(Drop)]
+#[derive(Clone, Copy)]
 pub struct AllAnswer {
     pub number: u8,
     pub free: Free,
@@ -138,7 +140,7 @@ pub struct AllAnswer {
 }
 
 #[repr(C)]
-#[derive(Drop)]
+#[derive(Clone, Copy)]
 pub struct RangeAnswer {
     pub number: u8,
     pub free: u16,
@@ -149,31 +151,31 @@ pub struct RangeAnswer {
 }
 
 // What a core answers, and the state that the thin call stores.
-#[derive(Drop)]
+#[derive(Clone, Copy)]
 pub(crate) struct AnchorPopped {
     pub answer: AnchorShown,
     pub state: AnchorsCacheTransaction,
 }
 
-#[derive(Drop)]
+#[derive(Clone, Copy)]
 pub(crate) struct InfoTrimmed {
     pub answer: InfoShown,
     pub state: AnchorsCacheTransaction,
 }
 
-#[derive(Drop)]
+#[derive(Clone, Copy)]
 pub(crate) struct ReaderAfter {
     pub number: u8,
     pub reader: Reader,
 }
 
-#[derive(Drop)]
+#[derive(Clone, Copy)]
 pub(crate) struct AllRead {
     pub answer: AllAnswer,
     pub state: Externals,
 }
 
-#[derive(Drop)]
+#[derive(Clone, Copy)]
 pub(crate) struct RangeRead {
     pub answer: RangeAnswer,
     pub state: RangeAndCache,

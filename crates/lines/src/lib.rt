@@ -1,4 +1,6 @@
 // The lines of a session: what each line tells, by `text`, from a place of the lent bytes on.
+#![tactic(auto)]
+
 ghost use Rattle.std.specs.Prelude.{◌≡◌, take};
 ghost use Rattle.rows.specs.Rows.{pick, whole_rows};
 ghost use Rattle.text.specs.Shown.{show};

@@ -1,5 +1,7 @@
 // Free places of buffers: a buffer is full where it has none. Messages themselves stay with the host; a buffer is its
 // count.
+#![tactic(auto)]
+
 ghost use Rattle.std.specs.Prelude.{◌≡◌};
 ghost use Rattle.messages_buffer.specs.Fullness.{free_in, least, with_free, limit_fits, count_fits, has_limit, limits_number, partitions_number, all_limited, range_free, fill_state};
 
@@ -11,7 +13,7 @@ pub const NO_LIMIT: u16 = 65535;
 
 // One partition's record in a range. Where it is not present its numbers are free.
 #[repr(C)]
-#[derive(Drop)]
+#[derive(Clone, Copy)]
 pub struct ExternalsPartitionRangeReaderState {
     pub count: u32,
     pub skip_offset: u32,
@@ -29,7 +31,7 @@ pub const NO_PARTITION: ExternalsPartitionRangeReaderState = ExternalsPartitionR
 
 // Number 0 and the fewest free places of a buffer of the range, or the number of the question that was answered "no".
 #[repr(C)]
-#[derive(Drop)]
+#[derive(Clone, Copy)]
 pub struct FillState {
     pub number: u8,
     pub free: u16,

@@ -2,7 +2,7 @@
 use crate::{numbers, words};
 
 // Where the next byte goes, if the value was good. What has no room is not written; the place tells it.
-#[derive(Drop)]
+#[derive(Clone, Copy)]
 pub struct Written {
     pub at: usize,
     pub good: bool,

@@ -58,7 +58,7 @@ hex 0000 h0*bytes";
 
 // Along a line and a form at once: where each goes on, where the next byte goes, whether the field before was left out,
 // whether this one comes again, whether the walk is over, and what is wrong, or 0.
-#[derive(Drop)]
+#[derive(Clone, Copy)]
 pub struct Walked {
     pub line: usize,
     pub form: usize,

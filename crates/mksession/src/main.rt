@@ -1,4 +1,6 @@
 // Sessions as text, one record a line, turned into the records' bytes (README.md).
+#![tactic(auto)]
+
 mod fields;
 mod forms;
 mod lines;
@@ -9,7 +11,7 @@ use streams::Input;
 
 // `number` is that of the line being read, `length` how many of its bytes are there; the text read goes on from `at` to
 // `end`.
-#[derive(Drop)]
+#[derive(Clone, Copy)]
 struct Run {
     number: u64,
     length: usize,

@@ -1,7 +1,7 @@
 // Numbers as words: decimal or hexadecimal, with a test that they fit.
 use crate::words;
 
-#[derive(Drop)]
+#[derive(Clone, Copy)]
 pub struct Parsed {
     pub value: u64,
     pub good: bool,

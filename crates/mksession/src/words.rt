@@ -1,7 +1,7 @@
 // Parts of a slice, and the words of a line.
 
 // Where a word stands; an empty one is none.
-#[derive(Drop)]
+#[derive(Clone, Copy)]
 pub struct Word {
     pub from: usize,
     pub end: usize,

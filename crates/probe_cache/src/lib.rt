@@ -1,5 +1,7 @@
 // The anchors cache in a session of extprobe: its answers and its state as text, and rows put without a call.
 // Text goes to lent bytes from a place on, as far as they reach; each function answers the place behind its text.
+#![tactic(auto)]
+
 ghost use Rattle.text.specs.Shown.{Puts};
 
 use anchors_cache::{AnchorsCacheTransaction, FoundInfo};

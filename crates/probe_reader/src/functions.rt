@@ -6,7 +6,7 @@ use externals_reader::ReaderDone;
 use reader_rules::{ByPartitions, ExternalsReader};
 
 // The reader after a call, and the place behind the text.
-#[derive(Drop)]
+#[derive(Clone, Copy)]
 pub struct Called {
     pub reader: ExternalsReader,
     pub at: usize,

@@ -98,7 +98,7 @@ pub(crate) fn find(state: ExternalsReaderState, seqno: u32) -> usize {
     MAX_RANGES
 }
 
-#[derive(Drop)]
+#[derive(Clone, Copy)]
 struct Pair {
     low: ExternalsRangeReaderState,
     high: ExternalsRangeReaderState,

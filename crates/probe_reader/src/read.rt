@@ -9,7 +9,7 @@ use range_rules::{ExternalsRangeReaderState, LastChainTime, ReadCounts, ReadNext
 use reader_rules::{ExternalsReader, GetNextMessageGroupMode, LastFree, MAX_RANGES};
 
 // How many bytes of the message area, of the routes and of an output of 26,649 bytes are lent.
-#[derive(Drop)]
+#[derive(Clone, Copy)]
 pub struct Lent {
     pub area: usize,
     pub routes: usize,
@@ -17,7 +17,7 @@ pub struct Lent {
 }
 
 // The place behind the text, and the reader and the cache after a read.
-#[derive(Drop)]
+#[derive(Clone, Copy)]
 pub struct Answered {
     pub at: usize,
     pub reader: ExternalsReader,
@@ -25,7 +25,7 @@ pub struct Answered {
 }
 
 // The answer of a read, of one range or of all; only one range's tells the last chain time.
-#[derive(Drop)]
+#[derive(Clone, Copy)]
 struct ReadDone {
     number: u8,
     used: usize,
@@ -38,7 +38,7 @@ struct ReadDone {
 
 // What is read: one range, at an index (past the table: none), or all; mode 0 is `ToTheEnd` or `Continue`, 1 the other
 // one.
-#[derive(Drop)]
+#[derive(Clone, Copy)]
 struct What {
     one: bool,
     index: usize,

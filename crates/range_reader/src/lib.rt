@@ -1,5 +1,7 @@
 // One range's read of externals: document 01's six steps over the cached anchors.
 // A refused read answers the number and leaves transaction, range and every output byte as at entry.
+#![tactic(auto)]
+
 ghost use Rattle.std.specs.Prelude.{◌≡◌};
 ghost use Rattle.range_reader.specs.Calls.{read_call, check_call, read_or_check_call, refused_answer, done_answer};
 ghost use Rattle.range_rules.specs.Rules.{context_of, entry_of};
@@ -20,7 +22,7 @@ mod refusals;
 
 // `free` is the fewest free places of the range's buffers at the read's end, 0 where one is full; `pops` anchors went
 // from the cache; the entries take the first `used` bytes of the output.
-#[derive(Drop)]
+#[derive(Clone, Copy)]
 pub struct ReadExternals {
     pub number: u8,
     pub last_chain_time: LastChainTime,
@@ -34,7 +36,7 @@ pub struct ReadExternals {
 
 // What the walk over an anchor's messages has come to beside its counts: the refusal, the fewest free places of a
 // buffer, the bytes used.
-#[derive(Drop)]
+#[derive(Clone, Copy)]
 pub struct Progress {
     pub number: u8,
     pub free: u16,
@@ -42,7 +44,7 @@ pub struct Progress {
 }
 
 // The fields of an output entry.
-#[derive(Drop)]
+#[derive(Clone, Copy)]
 pub struct Entry {
     pub seqno: u32,
     pub partition: usize,
@@ -51,7 +53,7 @@ pub struct Entry {
 }
 
 // What a message of ours changes: it counts `read` more as read and `buffered` more as buffered in its partition.
-#[derive(Drop)]
+#[derive(Clone, Copy)]
 pub struct Taken {
     pub progress: Progress,
     pub read: u32,

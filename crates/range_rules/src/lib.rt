@@ -1,5 +1,7 @@
 // No code: one range's read as document 01 tells it (specs/Rules), the types that it speaks of, and laws about these
 // rules (proofs).
+#![tactic(auto)]
+
 use ext_types::{ChainTime, ExternalKey};
 use messages_buffer::ExternalsPartitionRangeReaderState;
 use shard_ident::ShardIdent;
@@ -11,7 +13,7 @@ pub const ENTRY_LEN: usize = 26;
 // of an expired anchor that was passed since; the last imported anchor's end, once the block's own range is fully read;
 // before any of these, where the range began. `to` is the furthest place ever read to.
 #[repr(C)]
-#[derive(Drop)]
+#[derive(Clone, Copy)]
 pub struct ExternalsRangeReaderState {
     pub seqno: u32,
     pub from: ExternalKey,
@@ -22,7 +24,7 @@ pub struct ExternalsRangeReaderState {
     pub by_partitions: [ExternalsPartitionRangeReaderState; 8],
 }
 
-#[derive(Drop)]
+#[derive(Clone, Copy)]
 pub enum ReadNextExternalsMode {
     ToTheEnd,
     ToPreviuosReadTo,
@@ -30,14 +32,14 @@ pub enum ReadNextExternalsMode {
 
 // A partition's processed position, if it has one.
 #[repr(C)]
-#[derive(Drop)]
+#[derive(Clone, Copy)]
 pub struct ProcessedTo {
     pub key: ExternalKey,
     pub present: bool,
 }
 
 // The chain time of the last anchor looked at.
-#[derive(Drop)]
+#[derive(Clone, Copy)]
 pub enum LastChainTime {
     Nothing,
     Time(ChainTime),
@@ -45,7 +47,7 @@ pub enum LastChainTime {
 
 // Messages of ours per partition.
 #[repr(C)]
-#[derive(Drop)]
+#[derive(Clone, Copy)]
 pub struct ReadCounts {
     pub read: [u32; 8],
     pub expired: [u32; 8],
@@ -60,7 +62,7 @@ pub const NO_COUNTS: ReadCounts = ReadCounts {
 
 // What a read fixes at entry. `saved_end` is document 01's saved end: the range's "to" as it is then. `room` is the
 // length of the lent output.
-#[derive(Drop)]
+#[derive(Clone, Copy)]
 pub struct Context {
     pub shard: ShardIdent,
     pub seqno: u32,
@@ -76,7 +78,7 @@ pub struct Context {
 
 // `key` is the id and offset of the anchor looked at; the position follows it only when a message is read or the anchor
 // is expired.
-#[derive(Drop)]
+#[derive(Clone, Copy)]
 pub struct Place {
     pub key: ExternalKey,
     pub reached: bool,
@@ -86,14 +88,14 @@ pub struct Place {
 
 // The range's buffers, the fewest free places of one of them (0: it is full), and how many bytes of the output are
 // used.
-#[derive(Drop)]
+#[derive(Clone, Copy)]
 pub struct Buffers {
     pub free: u16,
     pub used: usize,
     pub by_partitions: [ExternalsPartitionRangeReaderState; 8],
 }
 
-#[derive(Drop)]
+#[derive(Clone, Copy)]
 pub struct Walk {
     pub number: u8,
     pub place: Place,
@@ -101,7 +103,7 @@ pub struct Walk {
     pub counts: ReadCounts,
 }
 
-#[derive(Drop)]
+#[derive(Clone, Copy)]
 pub struct RangeRead {
     pub walk: Walk,
     pub pops: usize,
@@ -111,7 +113,7 @@ pub struct RangeRead {
 }
 
 // What becomes of a message of ours. `Keep`: it is counted as read and not buffered; `Buffer`: both.
-#[derive(Drop)]
+#[derive(Clone, Copy)]
 pub enum Verdict {
     Keep,
     Buffer,

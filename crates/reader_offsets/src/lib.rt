@@ -1,5 +1,7 @@
 // Offsets of an externals reader, and the questions about its buffers and ranges.
 // A refused call answers the number and leaves the reader as at entry.
+#![tactic(auto)]
+
 ghost use Rattle.std.specs.Prelude.{◌≡◌};
 ghost use Rattle.reader_offsets.specs.Calls.{finalize_call, limit_reached_call, non_zero_offset_call, offset_reached_call, offsets_reached_call, count_call, has_messages_call, not_fully_read_call, read_and_collected_call, check_read_and_collected_call, all_collected_call, pending_externals_call, last_offsets_call, retain_call, set_from_call, increment_call, drop_call, set_skip_call, set_processed_call, taken_call};
 

@@ -1,5 +1,7 @@
 // No code: document 01's "All ranges" (specs/Rules) and "Offsets" (specs/Offsets), the types that they speak of, and
 // laws about these rules (proofs).
+#![tactic(auto)]
+
 use ext_types::{ChainTime, ExternalKey, Seconds};
 use range_rules::{ExternalsRangeReaderState, LastChainTime, ProcessedTo, ReadCounts};
 use shard_ident::ShardIdent;
@@ -11,7 +13,7 @@ pub const MAX_OPEN_RANGES: u8 = 16;
 
 // The reader's record of a partition. Where it is not present its numbers are free.
 #[repr(C)]
-#[derive(Drop)]
+#[derive(Clone, Copy)]
 pub struct ExternalsPartitionReaderState {
     pub processed_to: ExternalKey,
     pub curr_processed_offset: u32,
@@ -19,7 +21,7 @@ pub struct ExternalsPartitionReaderState {
 }
 
 // `len` ranges, by rising seqno; the slots behind them are free.
-#[derive(Drop)]
+#[derive(Clone, Copy)]
 pub struct ExternalsReaderState {
     pub ranges: [ExternalsRangeReaderState; MAX_RANGES],
     pub len: usize,
@@ -29,14 +31,14 @@ pub struct ExternalsReaderState {
 
 // `new_is_some`: new settings wait.
 #[repr(C)]
-#[derive(Drop)]
+#[derive(Clone, Copy)]
 pub struct MsgsExecutionParams {
     pub externals_expire_timeout: Seconds,
     pub open_ranges_limit: u8,
     pub new_is_some: bool,
 }
 
-#[derive(Drop)]
+#[derive(Clone, Copy)]
 pub struct ExternalsReader {
     pub for_shard_id: ShardIdent,
     pub block_seqno: u32,
@@ -47,21 +49,21 @@ pub struct ExternalsReader {
     pub all_ranges_fully_read: bool,
 }
 
-#[derive(Drop)]
+#[derive(Clone, Copy)]
 pub enum GetNextMessageGroupMode {
     Continue,
     Refill,
 }
 
 // The place after the last imported anchor's messages, if history holds one.
-#[derive(Drop)]
+#[derive(Clone, Copy)]
 pub enum Imported {
     Nothing,
     End(ExternalKey),
 }
 
 // What a read of all ranges fixes at entry; `room` is the length of the lent output.
-#[derive(Drop)]
+#[derive(Clone, Copy)]
 pub struct Fixed {
     pub shard: ShardIdent,
     pub block_seqno: u32,
@@ -76,7 +78,7 @@ pub struct Fixed {
 }
 
 // The free places that the last range read reported.
-#[derive(Drop)]
+#[derive(Clone, Copy)]
 pub enum LastFree {
     Nothing,
     Places(u16),
@@ -84,7 +86,7 @@ pub enum LastFree {
 
 // What the turns so far have come to: the pops, the bytes used, whether every range so far is fully read, whether a
 // full buffer stopped the read, and what the last range read reported.
-#[derive(Drop)]
+#[derive(Clone, Copy)]
 pub struct SoFar {
     pub number: u8,
     pub pops: usize,
@@ -97,7 +99,7 @@ pub struct SoFar {
 }
 
 // The same with the ranges as they are now.
-#[derive(Drop)]
+#[derive(Clone, Copy)]
 pub struct RangesRead {
     pub so_far: SoFar,
     pub ranges: [ExternalsRangeReaderState; MAX_RANGES],
@@ -106,7 +108,7 @@ pub struct RangesRead {
 
 // A number for each partition that is present, and 0 for the others.
 #[repr(C)]
-#[derive(Drop)]
+#[derive(Clone, Copy)]
 pub struct ByPartitions {
     pub number: u8,
     pub values: [u32; 8],
@@ -114,7 +116,7 @@ pub struct ByPartitions {
 }
 
 // What is asked of a partition, by its record in the reader and its record in a range.
-#[derive(Drop)]
+#[derive(Clone, Copy)]
 pub enum PartitionTest {
     InRange,
     InReader,
@@ -126,7 +128,7 @@ pub enum PartitionTest {
 
 // What ranges together hold of a partition: whether any has it, the messages in their buffers, and the greatest
 // processed offset.
-#[derive(Drop)]
+#[derive(Clone, Copy)]
 pub struct Tally {
     pub present: bool,
     pub count: u64,

@@ -1,4 +1,6 @@
 // Records of a session: a kind and a payload. Question 17, and the fields of a payload; those past its end are 0.
+#![tactic(auto)]
+
 ghost use Rattle.std.specs.Prelude.{◌≡◌, ◌+◌, ◌*◌, ◌<◌, eqb, length};
 ghost use Rattle.rows.specs.Rows.{num_at};
 ghost use Rattle.records.specs.Records.{next_record, in_place, byte_within, as_stated, record_number, signed_of, shard_of, limits_of, limits_in, params_of, author_of, anchor_in};
@@ -23,7 +25,7 @@ pub const DO: u16 = 5;
 pub const LONGEST: usize = 52 + 33 * MAX_ANCHOR_MESSAGES;
 
 // The next record, as far as it is at hand.
-#[derive(Drop)]
+#[derive(Clone, Copy)]
 pub enum Next {
     // its bytes: where they begin, and how many they are
     Whole(usize, usize),

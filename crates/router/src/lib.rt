@@ -1,4 +1,6 @@
 // The router: the partition of a message by its workchain and account. Routes are lent bytes, searched in order.
+#![tactic(auto)]
+
 ghost use Rattle.std.specs.Prelude.{◌≡◌};
 ghost use Rattle.router.specs.Router.{route_rows, none_twice, partitions_exist, routes_number, partition_of, answer_of, get_partition};
 
@@ -14,7 +16,7 @@ pub const MESSAGE_LEN: usize = 33;
 pub const ROUTE_LEN: usize = 34;
 
 // Refused: question 3's number. Partition: number 0 and the value.
-#[derive(Drop)]
+#[derive(Clone, Copy)]
 pub enum Routed {
     Refused,
     Partition(u8),

@@ -1,12 +1,14 @@
 // Lent bytes as a table: numbers of two, four and eight bytes, the lowest first, moves of parts, and rows of one width.
 // Every public function is total: what would be read past the end is 0, what would be written past it is not written.
+#![tactic(auto)]
+
 ghost use Rattle.std.specs.Prelude.{◌≡◌, ◌+◌, ◌*◌, ◌<◌, ◌≤◌, ◌-◌, leb, length, get_or};
 ghost use Rattle.std.proofs.lemmas.List.Edits.{sets};
 ghost use Rattle.rows.specs.Rows.{part, le, word, stays, appended, num_at, written, moved_down, fits, append_answer, appended_if_fits, starts_with, whole_rows, find_row};
 
 // Where the new bytes stand: behind the old ones; behind them after they went down to the table's start; nowhere, and
 // nothing was written.
-#[derive(Drop)]
+#[derive(Clone, Copy)]
 pub enum Appended {
     Behind,
     Moved,
@@ -14,7 +16,7 @@ pub enum Appended {
 }
 
 // The index of a row.
-#[derive(Drop)]
+#[derive(Clone, Copy)]
 pub enum Found {
     At(usize),
     Nothing,

@@ -1,5 +1,7 @@
 // A session's step (document 01, "Session program"): one record, the text that it gives, and the state that it leaves.
 // The tables, the message area, the routes, the output entries and the text are lent; session and reader go by value.
+#![tactic(auto)]
+
 ghost use Rattle.std.specs.Prelude.{◌≡◌};
 ghost use Rattle.session_rules.specs.Steps.{no_reader, reaches_reader, whole, whole_after};
 
@@ -8,7 +10,7 @@ use session_rules::Session;
 
 mod reading;
 
-#[derive(Drop)]
+#[derive(Clone, Copy)]
 pub struct Stepped {
     pub session: Session,
     pub reader: ExternalsReader,

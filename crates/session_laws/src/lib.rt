@@ -1,1 +1,2 @@
 // No code: document 01's sample session, run by computing its definitions.
+#![tactic(auto)]

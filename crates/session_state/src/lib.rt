@@ -1,5 +1,7 @@
 // A session (document 01, "Session program"): the records that do not reach the reader, a refused one, and the end.
 // The tables, the message area, the routes and the text are lent; the session goes by value.
+#![tactic(auto)]
+
 ghost use Rattle.std.specs.Prelude.{◌≡◌, length};
 ghost use Rattle.session_rules.specs.Said.{new_session, record_counted, printed, with_transaction, bad_said, after_or_bad, malformed_said, route_said, routes_after, anchor_left, cache_said, plain_left, is_taken, long_said, end_said};
 

@@ -1,17 +1,19 @@
 // Question 2 and the TON shard rule: whose account is ours.
+#![tactic(auto)]
+
 ghost use Rattle.std.specs.Prelude.{◌≡◌, ◌<◌, ◌≤◌, length};
 ghost use Rattle.rows.specs.Rows.{part};
 ghost use Rattle.shard_ident.specs.Shard.{splits_masterchain, shard_number, same_workchain, same_above_tag, in_shard, big_endian, answer_of, contains_address, contains_message};
 
 // A part of a workchain: the accounts whose first bits are the prefix's above its lowest set bit, the tag.
 #[repr(C)]
-#[derive(Drop)]
+#[derive(Clone, Copy)]
 pub struct ShardIdent {
     pub workchain: i32,
     pub prefix: u64,
 }
 
-#[derive(Drop)]
+#[derive(Clone, Copy)]
 pub enum Membership {
     Refused,
     Ours,

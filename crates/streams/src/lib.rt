@@ -1,10 +1,12 @@
 // Bytes from standard input and to standard output. A call that fails is told apart from the end of the input. One that
 // a signal interrupted, or that would have had to wait, is made again; turns are counted, for a proved loop has to end.
+#![tactic(auto)]
+
 ghost use Rattle.std.specs.Prelude.{◌≤◌, T, length};
 ghost use Rattle.streams.specs.Reads.{Within};
 
 // What a read came to.
-#[derive(Drop)]
+#[derive(Clone, Copy)]
 pub enum Input {
     Bytes(usize),
     End,
@@ -12,7 +14,7 @@ pub enum Input {
 }
 
 // How many bytes were read; and whether a read failed behind them.
-#[derive(Drop)]
+#[derive(Clone, Copy)]
 pub struct Filled {
     pub n: usize,
     pub failed: bool,

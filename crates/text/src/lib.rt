@@ -1,5 +1,7 @@
 // Text in lent bytes: byte strings and decimal numbers, from a place on, as far as the bytes reach.
 // Each function answers the place behind its text.
+#![tactic(auto)]
+
 ghost use Rattle.std.specs.Prelude.{◌≡◌, [], ◌∷◌};
 ghost use Rattle.text.specs.Shown.{show, decimal, marked, spaced, joined, line};
 

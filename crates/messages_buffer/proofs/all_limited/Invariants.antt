@@ -1,0 +1,16 @@
+-- `messages_buffer::all_limited` meets its contract: the loop keeps that the rest of the two tables decides.
+use Prim.Native.Nat.{◌-◌, ◌≤◌}
+use mathlib.Core.Path.{◌≡◌, refl, sym, ◌∙◌}
+use native.Mathlib.Omega.{arith}
+use lib.ListN.{length, drop}
+use borrow.Author.Rules.{rules}
+use borrow.Author.Tests.{not-true, not-false}
+use Rattle.messages_buffer.specs.Fullness.{every, limited, buffers, all_limited}
+use Rattle.messages_buffer.proofs.Laws.{buffers_fail, buffers_next, buffers_end}
+use Rattle.messages_buffer.proofs.all_limited.Given as goal
+
+abbrev pub invariant-loop-i : goal.invariant-loop-i
+invariant-loop-i l = (l.i ≤ 8) × (every limited (drop l.i (buffers l.limits l.partitions)) ≡ every limited (buffers l.limits l.partitions))
+
+abbrev pub decreases-loop-i : goal.decreases-loop-i
+decreases-loop-i l = 8 - l.i

@@ -1,0 +1,23 @@
+use lib.Seq.{take_all, sets}
+use Rattle.rows.proofs.Laws.{copy_more}
+use borrow.Author.Rules.{rules}
+use Prim.Native.Nat.{◌-◌, ◌≤◌}
+use mathlib.Core.Path.{◌≡◌, refl, ◌∙◌}
+use native.Mathlib.Omega.{arith}
+use lib.ListN.{length, take, length-set}
+use Rattle.rows.proofs.copy_in_place.Goals as goal
+
+pub loop-i-init : goal.loop-i-init
+loop-i-init c = (search rules, refl, refl)
+
+pub loop-i-preserved : goal.loop-i-preserved
+loop-i-preserved c =
+    let s = c.loop-i in
+    let a = c.args in
+    (omega arith, simp length-set s.invariant.1, rw s.invariant.2 (copy_more _ a.dst.now a.at a.src.now s.i (omega arith)))
+
+pub returns : goal.returns
+returns c =
+    let s = c.loop-i in
+    let a = c.args in
+    s.invariant.2 ∙ rw (take_all s.i a.src.now (omega arith))

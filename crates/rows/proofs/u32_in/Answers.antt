@@ -1,0 +1,13 @@
+-- The two halves of a number of four bytes.
+use Rattle.rows.proofs.Laws.{word_halves}
+use native.Mathlib.Omega.{arith}
+use Rattle.rows.proofs.u32_in.Goals as goal
+
+pub returns : goal.returns
+returns c =
+    let a = c.args in
+    let l = a.s.now in
+    let p = c.u16_in.ensures in
+    let q = c.u16_in-2.ensures in
+    let w = word_halves l a.at 2 2 (omega arith) in
+    (omega arith, omega arith)
