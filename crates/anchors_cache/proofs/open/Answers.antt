@@ -1,0 +1,14 @@
+use Rattle.anchors_cache.specs.Calls.{open_call, answer}
+use Rattle.anchors_cache.proofs.Asked.{on_not}
+use Prim.Native.Nat.{◌-◌}
+use mathlib.Core.Path.{sym, ◌∙◌}
+use borrow.Author.Rules.{rules}
+use Rattle.anchors_cache.proofs.open.Goals as goal
+
+pub returns-then-r-ne0 : goal.returns-then-r-ne0
+unfolding open_call answer
+returns-then-r-ne0 c = rw (← c.refusal_at-r.ensures, on_not _ _ _ c.if-r-ne0.true)
+
+pub returns : goal.returns
+unfolding open_call answer
+returns c = rw (sym c.refusal_at-r.ensures ∙ c.if-r-ne0.false)
