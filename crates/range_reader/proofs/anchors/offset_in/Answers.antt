@@ -1,0 +1,12 @@
+use borrow.Author.Tests.{eq-eqb, ne_eqb}
+use Rattle.range_reader.proofs.anchors.offset_in.Goals as goal
+
+pub returns-then-position-id : goal.returns-then-position-id
+returns-then-position-id c =
+    let c-args = c.args in
+    rw (eq-eqb c-args.position.anchor_id c-args.id c.if-position-id.true)
+
+pub returns : goal.returns
+returns c =
+    let c-args = c.args in
+    rw (ne_eqb c-args.position.anchor_id c-args.id c.if-position-id.false)

@@ -1,0 +1,15 @@
+-- The invariant says that the count of what is left comes to the whole count.
+use lib.ListN.{length, length-set}
+use Rattle.range_reader.proofs.MessageLaws.{Counted, counted_next, expired_none, expired_other, expired_ours}
+use borrow.Author.Rules.{rules}
+use Prim.Native.Nat.{◌-◌}
+use mathlib.Core.Path.{◌≡◌, refl, sym, ◌∙◌}
+use native.Mathlib.Omega.{arith}
+use borrow.Author.Tests.{not-true, not-false}
+use Rattle.range_reader.proofs.messages.count_expired.Given as goal
+
+abbrev pub invariant-loop-left : goal.invariant-loop-left
+invariant-loop-left l = Counted l.shard l.routes l.rest l.n l.initial.counts l.counts l.at l.left × (length l.counts ≡ 8)
+
+abbrev pub decreases-loop-left : goal.decreases-loop-left
+decreases-loop-left l = l.left

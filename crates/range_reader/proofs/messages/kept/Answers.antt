@@ -1,0 +1,8 @@
+use Rattle.range_reader.specs.Locals.{taken}
+use Prim.Native.Nat.{◌-◌}
+use mathlib.Core.Path.{refl}
+use Rattle.range_reader.proofs.messages.kept.Goals as goal
+
+pub returns : goal.returns
+unfolding taken
+returns c = λ limit. refl
