@@ -1,5 +1,3 @@
-pub mod Thin
-pub mod Lend
 pub mod Calls
 pub mod Refused
 pub mod Routes

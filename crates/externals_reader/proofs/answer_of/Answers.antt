@@ -1,0 +1,6 @@
+use Prim.Native.Nat.{◌-◌}
+use borrow.Author.Rules.{rules}
+use Rattle.externals_reader.proofs.answer_of.Goals as goal
+
+pub returns : goal.returns
+returns c = rw (c.reader_after.ensures, c.pop_fronts-popped.ensures)

@@ -1,0 +1,9 @@
+use Rattle.reader_rules.specs.Rules.{next_range}
+use Prim.Native.Nat.{◌-◌}
+use mathlib.Core.Path.{◌∙◌}
+use borrow.Author.Rules.{rules}
+use Rattle.externals_reader.proofs.next.next_range.Goals as goal
+
+pub returns : goal.returns
+unfolding next_range
+returns c = λ ranges e. c.range_from.ensures ∙ rw (c.last_to-from.ensures ranges e, c.next_partitions-fresh.ensures)

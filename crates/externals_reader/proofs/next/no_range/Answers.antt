@@ -1,0 +1,6 @@
+use Prim.Native.Nat.{◌-◌}
+use borrow.Author.Rules.{rules}
+use Rattle.externals_reader.proofs.next.no_range.Goals as goal
+
+pub returns : goal.returns
+returns c = c.range_from.ensures

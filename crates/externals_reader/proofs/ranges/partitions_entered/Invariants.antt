@@ -1,0 +1,17 @@
+use Rattle.reader_rules.specs.Each.{each}
+use Rattle.reader_rules.proofs.Each.{each_start, each_next, each_end}
+use Rattle.reader_rules.specs.State.{no_reader_partition}
+use lib.Seq.{sets}
+use Rattle.reader_rules.specs.Rules.{with_default, partitions_entered}
+use borrow.Author.Rules.{rules}
+use Prim.Native.Nat.{ℕ, ◌-◌, ◌≤◌}
+use mathlib.Core.Path.{◌≡◌}
+use native.Mathlib.Omega.{arith}
+use lib.ListN.{length, get_or}
+use Rattle.externals_reader.proofs.ranges.partitions_entered.Given as goal
+
+abbrev pub invariant-loop-i : goal.invariant-loop-i
+invariant-loop-i l = (l.i ≤ 8) × (l.r ≡ sets l.initial.r 0 (each l.i (λ (j : ℕ). with_default (get_or l.limits j 0) (get_or l.parts j no_reader_partition))))
+
+abbrev pub decreases-loop-i : goal.decreases-loop-i
+decreases-loop-i l = 8 - l.i

@@ -1,0 +1,6 @@
+use Prim.Native.Nat.{◌-◌}
+use borrow.Author.Rules.{rules}
+use Rattle.externals_reader.proofs.reader_after.Goals as goal
+
+pub returns : goal.returns
+returns c = rw c.time_saved-last.ensures

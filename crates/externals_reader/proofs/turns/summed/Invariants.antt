@@ -1,0 +1,16 @@
+use Rattle.reader_rules.specs.Each.{each}
+use Rattle.reader_rules.proofs.Each.{each_start, each_next, each_end}
+use lib.Seq.{sets}
+use Rattle.reader_rules.specs.Rules.{sums}
+use borrow.Author.Rules.{rules}
+use Prim.Native.Nat.{ℕ, ◌+◌, ◌-◌, ◌≤◌}
+use mathlib.Core.Path.{◌≡◌, refl}
+use native.Mathlib.Omega.{arith}
+use lib.ListN.{length, get_or}
+use Rattle.externals_reader.proofs.turns.summed.Given as goal
+
+abbrev pub invariant-loop-i : goal.invariant-loop-i
+invariant-loop-i l = (l.i ≤ 8) × (l.r ≡ sets l.initial.r 0 (each l.i (λ (j : ℕ). get_or l.a j 0 + get_or l.b j 0)))
+
+abbrev pub decreases-loop-i : goal.decreases-loop-i
+decreases-loop-i l = 8 - l.i
