@@ -1,0 +1,33 @@
+-- Each return is the answer to the first "no", or the rule's.
+use mathlib.Core.Path.{◌≡◌, sym, ap, ◌∙◌}
+use mathlib.Core.Bool.{true}
+use native.Mathlib.Omega.{arith}
+use lib.ListN.{length, length-map}
+use borrow.Author.Rules.{rules}
+use Rattle.reader_rules.specs.State.{state_number, max_ranges}
+use Rattle.reader_rules.specs.Offsets.{shown_by}
+use Rattle.reader_offsets.specs.Calls.{last_offsets_call}
+use Rattle.reader_offsets.proofs.Numbers.{partitions_refused, partitions_done}
+use Rattle.reader_offsets.proofs.Changes.{last_part, last_fits}
+use Rattle.externals_reader.proofs.Sound.{sound_parts}
+use Rattle.reader_offsets.proofs.get_last_range_state_offsets_by_partitions.Goals as goal
+
+pub returns-then-of_state-ne0 : goal.returns-then-of_state-ne0
+unfolding last_offsets_call
+returns-then-of_state-ne0 c = partitions_refused _ _ (sym c.check_state-of_state.ensures) c.if-of_state-ne0.true _
+
+pub by_partitions-requires : goal.by_partitions-requires
+by_partitions-requires c =
+    let c-last-place = c.last_place-at in
+    let s = c.args.reader in
+    let sound : state_number s.reader_state ≡ 0 = sym c.check_state-of_state.ensures ∙ c.if-of_state-ne0.false in
+    let n : length s.reader_state.ranges ≡ max_ranges = c.well_formed.0.1.1.1.1.1.1.1.0.1.1.0.1.0.1 in
+    (omega (arith, (sound_parts s.reader_state sound).0, c-last-place.ensures), last_fits s sound (omega (arith, n, (sound_parts s.reader_state sound).0)) _ c-last-place.ensures)
+
+pub returns : goal.returns
+unfolding last_offsets_call
+returns c =
+    let s = c.args.reader in
+    let sound : state_number s.reader_state ≡ 0 = sym c.check_state-of_state.ensures ∙ c.if-of_state-ne0.false in
+    let n : length s.reader_state.ranges ≡ max_ranges = c.well_formed.0.1.1.1.1.1.1.1.0.1.1.0.1.0.1 in
+    partitions_done _ sound _ _ (c.by_partitions.ensures ∙ ap (shown_by true) (last_part s.reader_state.ranges s.reader_state.len (omega (arith, n, (sound_parts s.reader_state sound).0)) _ c.last_place-at.ensures))

@@ -1,0 +1,47 @@
+-- Each return is the answer to the first "no", or the rule's.
+use mathlib.Core.Path.{◌≡◌, refl, sym, ◌∙◌}
+use native.Mathlib.Omega.{arith}
+use lib.ListN.{length, length-map}
+use borrow.Author.Tests.{lt-ltb, le-ltb}
+use borrow.Author.Rules.{rules}
+use Rattle.reader_rules.specs.State.{state_number, max_ranges}
+use Rattle.reader_rules.specs.Offsets.{from_position}
+use Rattle.reader_offsets.specs.Calls.{set_from_call}
+use Rattle.reader_offsets.proofs.Numbers.{refused_5, refused_15, done}
+use Rattle.reader_offsets.proofs.Changes.{last_set}
+use Rattle.externals_reader.proofs.Sound.{sound_parts}
+use Rattle.reader_offsets.proofs.set_from_to_current_position_in_last_range_state.Goals as goal
+
+pub returns-then-of_state-ne0 : goal.returns-then-of_state-ne0
+unfolding set_from_call
+returns-then-of_state-ne0 c =
+    let s = c.args.reader in
+    refused_5 s _ _ _ _ c.check_state-of_state.ensures c.if-of_state-ne0.true
+
+pub returns-then-state-eq0 : goal.returns-then-state-eq0
+unfolding set_from_call
+returns-then-state-eq0 c =
+    let s = c.args.reader in
+    let sound : state_number s.reader_state ≡ 0 = sym c.check_state-of_state.ensures ∙ c.if-of_state-ne0.false in
+    refused_15 s _ _ _ sound (le-ltb 0 s.reader_state.len (omega (arith, c.if-state-eq0.true)))
+
+pub last_range-last-requires : goal.last_range-last-requires
+last_range-last-requires c =
+    let s = c.args.reader in
+    let sound : state_number s.reader_state ≡ 0 = sym c.check_state-of_state.ensures ∙ c.if-of_state-ne0.false in
+    (omega (arith, c.if-state-eq0.false), (sound_parts s.reader_state sound).0)
+
+pub with_range-requires : goal.with_range-requires
+with_range-requires c =
+    let s = c.args.reader in
+    let sound : state_number s.reader_state ≡ 0 = sym c.check_state-of_state.ensures ∙ c.if-of_state-ne0.false in
+    (omega (arith, c.if-state-eq0.false), (sound_parts s.reader_state sound).0)
+
+pub returns : goal.returns
+unfolding set_from_call
+returns c =
+    let c-last-range = c.last_range-last in
+    let s = c.args.reader in
+    let sound : state_number s.reader_state ≡ 0 = sym c.check_state-of_state.ensures ∙ c.if-of_state-ne0.false in
+    let n : length s.reader_state.ranges ≡ max_ranges = c.well_formed.0.1.1.1.1.1.1.1.0.1.1.0.1.0.1 in
+    done s _ _ _ sound (lt-ltb 0 s.reader_state.len (omega (arith, c.if-state-eq0.false))) refl _ (c.with_range.ensures ∙ last_set s sound (omega (arith, n, (sound_parts s.reader_state sound).0)) from_position _ c-last-range.result refl c-last-range.ensures)
