@@ -1,6 +1,8 @@
 use Rattle.records.specs.Records.{as_stated}
 use borrow.Author.Tests.{ne_eqb}
 use borrow.Author.Rules.{rules}
+use Rattle.std.proofs.lemmas.Bool.Decides.{nat_tests}
+use Rattle.std.proofs.Common.{arith}
 use Rattle.records.proofs.is_as_stated.Goals as goal
 
 pub returns-then-p-ne34 : goal.returns-then-p-ne34
@@ -33,4 +35,4 @@ returns-else-p-ne1 c = rw (c.in-5.is, c.if-p-ne1.false) c.is_byte_within-in-5.en
 
 pub returns-in_default : goal.returns-in_default
 unfolding as_stated
-returns-in_default c = let h = c.in_default in ?
+returns-in_default c = grind (arith, nat_tests)
