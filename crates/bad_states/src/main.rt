@@ -25,10 +25,8 @@ fn put_answer(out: &mut [u8; 16384], at: usize, number: u8) -> usize {
 
 fn put_answers(out: &mut [u8; 16384], at: usize, numbers: [u8; 17]) -> usize {
     let mut to = at;
-    let mut i = 0;
-    while i < 17 {
-        to = put_answer(out, to, numbers[i]);
-        i += 1;
+    for number in numbers {
+        to = put_answer(out, to, number);
     }
     text::put(out, to, b"\n")
 }
@@ -193,11 +191,11 @@ fn put_adds(out: &mut [u8; 16384], at: usize) -> usize {
 }
 
 // It takes the array: that a slice of it has its length is known here, and not behind the calls of `main`.
-fn write(out: &[u8; 16384], at: usize) {
-    streams::write_front(out, at);
+fn write(rt: &HostRuntime, out: &[u8; 16384], at: usize) {
+    streams::write_front(&mut rt.stdout(), out, at);
 }
 
-fn main() {
+fn main(rt: HostRuntime) {
     let mut out = [0u8; 16384];
     let lent = put_lent(&mut out, 0);
     let past = put_past_tables(&mut out, lent);
@@ -205,5 +203,5 @@ fn main() {
     let bases = put_bases(&mut out, unsound);
     let ends = put_ends(&mut out, bases);
     let adds = put_adds(&mut out, ends);
-    write(&out, adds);
+    write(&rt, &out, adds);
 }

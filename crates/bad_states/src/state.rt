@@ -51,10 +51,8 @@ fn put_row(tables: &mut [u8; 14912], i: u64)
 
 pub fn tables() -> [u8; 14912] {
     let mut all = [7u8; 14912];
-    let mut i: u64 = 0;
-    while i < 32 {
+    for i in 0..32u64 {
         put_row(&mut all, i);
-        i += 1;
     }
     all
 }
@@ -62,10 +60,8 @@ pub fn tables() -> [u8; 14912] {
 // Not all alike, so that a move within the area would show.
 pub fn area() -> [u8; 40000] {
     let mut all = [0u8; 40000];
-    let mut i: usize = 0;
-    while i < 40000 {
+    for i in 0..40000usize {
         all[i] = (i % 251) as u8;
-        i += 1;
     }
     all
 }

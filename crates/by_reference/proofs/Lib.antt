@@ -1,3 +1,2 @@
-pub mod Calls
 pub mod Refused
 pub mod Routes

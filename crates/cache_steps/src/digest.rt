@@ -15,10 +15,8 @@ fn fold_u32(d: u32, x: u32) -> u32 {
 
 fn fold_bytes(d: u32, s: &[u8]) -> u32 {
     let mut sum = d;
-    let mut i = 0;
-    while i < s.len() {
-        sum = fold(sum, wide(s[i]));
-        i += 1;
+    for x in s {
+        sum = fold(sum, wide(*x));
     }
     sum
 }
@@ -61,10 +59,8 @@ fn fold_anchor(d: u32, tables: &[u8], area: &[u8], t: AnchorsCacheTransaction, i
 
 fn fold_anchors(d: u32, tables: &[u8], area: &[u8], t: AnchorsCacheTransaction, n: usize) -> u32 {
     let mut sum = d;
-    let mut i = 0;
-    while i < n {
+    for i in 0..n {
         sum = fold_anchor(sum, tables, area, t, i);
-        i += 1;
     }
     sum
 }
@@ -87,14 +83,12 @@ fn fold_info(d: u32, tables: &[u8], i: usize) -> u32 {
 fn fold_history(d: u32, tables: &[u8], first: usize, len: usize) -> u32 {
     let mut sum = d;
     let mut i = first;
-    let mut left = len;
-    while left > 0 {
+    for _ in 0..len {
         if i >= 256 {
             return sum;
         }
         sum = fold_info(sum, tables, i);
         i += 1;
-        left -= 1;
     }
     sum
 }

@@ -97,10 +97,8 @@ pub fn anchor(seed: &mut u32, kind: u32, id: u32, ct: u64) -> Drawn {
 // Byte i is (id + i) % 256.
 pub fn author(id: u32) -> [u8; 32] {
     let mut a = [0u8; 32];
-    let mut i: u64 = 0;
-    while i < 32 {
+    for i in 0..32u64 {
         a[i as usize] = ((wide(id) + i) % 256) as u8;
-        i += 1;
     }
     a
 }
@@ -108,10 +106,8 @@ pub fn author(id: u32) -> [u8; 32] {
 // Byte j of message m is (id + 7 * m + j) % 256. 120 messages are more than any anchor of the list has.
 pub fn messages(id: u32) -> [u8; 3960] {
     let mut all = [0u8; 3960];
-    let mut i: u64 = 0;
-    while i < 3960 {
+    for i in 0..3960u64 {
         all[i as usize] = ((wide(id) + 7 * (i / 33) + i % 33) % 256) as u8;
-        i += 1;
     }
     all
 }

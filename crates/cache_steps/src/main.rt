@@ -117,10 +117,8 @@ fn add_some(
 ) -> Run {
     let mut next = run;
     let t = run.t;
-    let mut left = adds_of(seed, kind, t.active);
-    while left > 0 {
+    for _ in 0..adds_of(seed, kind, t.active) {
         next = add_one(tables, area, out, seed, next, kind);
-        left -= 1;
     }
     next
 }
@@ -163,10 +161,8 @@ fn pop_one(tables: &[u8], area: &[u8], out: &mut [u8; 65536], run: Run) -> Run {
 
 fn pop_some(tables: &[u8], area: &[u8], out: &mut [u8; 65536], seed: &mut u32, run: Run) -> Run {
     let mut next = run;
-    let mut left = 1 + draw::rnd(seed, 8);
-    while left > 0 {
+    for _ in 0..1 + draw::rnd(seed, 8) {
         next = pop_one(tables, area, out, next);
-        left -= 1;
     }
     next
 }
@@ -271,18 +267,19 @@ fn put_cache(out: &mut [u8; 65536], at: usize, c: AnchorsCache, digest: u32) -> 
 }
 
 // The text is written where one more step might not fit. The longest has 40 lines of `add` and its last line.
-fn flushed(out: &[u8; 65536], run: Run, at: usize) -> Run {
+fn flushed(rt: &HostRuntime, out: &[u8; 65536], run: Run, at: usize) -> Run {
     let mut next = run;
     next.at = at;
     if 61440 <= at {
         next.at = 0;
-        next.written = streams::write_front(out, at);
+        next.written = streams::write_front(&mut rt.stdout(), out, at);
     }
     next
 }
 
 // A step and its line.
 fn turn(
+    rt: &HostRuntime,
     tables: &mut [u8; 14912],
     area: &mut [u8; 33792],
     out: &mut [u8; 65536],
@@ -294,15 +291,15 @@ fn turn(
     let now = next.t;
     let digest = digest::of_cache(tables, area, now);
     let at = put_cache(out, next.at, now.cache, digest);
-    flushed(out, next, at)
+    flushed(rt, out, next, at)
 }
 
-fn finish(out: &mut [u8; 65536], run: Run) {
+fn finish(rt: &HostRuntime, out: &mut [u8; 65536], run: Run) {
     let at = text::put_line(out, run.at, b"end", &[run.adds, run.refused, run.pops]);
-    streams::write_front(out, at);
+    streams::write_front(&mut rt.stdout(), out, at);
 }
 
-fn main() {
+fn main(rt: HostRuntime) {
     let mut tables = [0u8; 14912];
     let mut area = [0u8; 33792];
     let mut out = [0u8; 65536];
@@ -318,13 +315,19 @@ fn main() {
         at: 0,
         written: true,
     };
-    let mut i: u32 = 0;
-    while i < 1200 {
-        run = turn(&mut tables, &mut area, &mut out, &mut seed, run, i / 40 % 3);
+    for i in 0..1200u32 {
+        run = turn(
+            &rt,
+            &mut tables,
+            &mut area,
+            &mut out,
+            &mut seed,
+            run,
+            i / 40 % 3,
+        );
         if !run.written {
             return;
         }
-        i += 1;
     }
-    finish(&mut out, run);
+    finish(&rt, &mut out, run);
 }

@@ -21,10 +21,10 @@ struct Run {
 const MOST: usize = 16384;
 
 // The text is written where it is longer than `most`. Where it can't be, the session has stopped.
-fn flushed(text: &[u8; 131072], session: Session, most: usize) -> Session {
+fn flushed(rt: &HostRuntime, text: &[u8; 131072], session: Session, most: usize) -> Session {
     let mut s = session;
     if most < session.at {
-        if !streams::write_front(text, session.at) {
+        if !streams::write_front(&mut rt.stdout(), text, session.at) {
             s.stopped = true;
         }
         s.at = 0;
@@ -33,11 +33,11 @@ fn flushed(text: &[u8; 131072], session: Session, most: usize) -> Session {
 }
 
 // More input, behind the first `have` bytes. They are less than a record, so there is room.
-fn read_more(window: &mut [u8], have: usize) -> Input {
+fn read_more(rt: &HostRuntime, window: &mut [u8], have: usize) -> Input {
     if window.len() <= have {
         return Input::Failed;
     }
-    streams::read(&mut window[have..])
+    streams::read(&mut rt.stdin(), &mut window[have..])
 }
 
 // The input has ended; `cut`: inside a record, or because it can't be read.
@@ -48,10 +48,10 @@ fn ended(text: &mut [u8; 131072], run: Run, cut: bool) -> Run {
 }
 
 // What is at hand goes down to the front, and more input behind it.
-fn refilled(window: &mut [u8; 65536], text: &mut [u8; 131072], run: Run) -> Run {
+fn refilled(rt: &HostRuntime, window: &mut [u8; 65536], text: &mut [u8; 131072], run: Run) -> Run {
     let have = std::num::wrapping_sub_usize(run.end, run.from);
     rows::move_down(window, run.from, 0, have);
-    let input = read_more(window, have);
+    let input = read_more(rt, window, have);
     let mut next = run;
     match input {
         Input::Bytes(n) => {
@@ -65,9 +65,9 @@ fn refilled(window: &mut [u8; 65536], text: &mut [u8; 131072], run: Run) -> Run 
 }
 
 // How many bytes more were read; 0 where there are none, or none that can be read.
-fn skim() -> usize {
-    let mut buffer = io::large_buffer();
-    let input = streams::read(&mut buffer);
+fn skim(rt: &HostRuntime) -> usize {
+    let mut buffer = [0u8; 65536];
+    let input = streams::read(&mut rt.stdin(), &mut buffer);
     match input {
         Input::Bytes(n) => n,
         _ => 0,
@@ -75,10 +75,10 @@ fn skim() -> usize {
 }
 
 // Whether so many bytes more stand in the input. The program stops behind them, so more may be read.
-fn has_more(n: usize) -> bool {
+fn has_more(rt: &HostRuntime, n: usize) -> bool {
     let mut left = n;
     while 0 < left {
-        let got = skim();
+        let got = skim(rt);
         if got == 0 {
             return false;
         }
@@ -91,12 +91,12 @@ fn has_more(n: usize) -> bool {
 }
 
 // Whether the n bytes from a place on stand in the input, of which those before `end` are at hand.
-fn has_all(start: usize, end: usize, n: usize) -> bool {
+fn has_all(rt: &HostRuntime, start: usize, end: usize, n: usize) -> bool {
     let have = std::num::wrapping_sub_usize(end, start);
     if n <= have {
         return true;
     }
-    has_more(n - have)
+    has_more(rt, n - have)
 }
 
 // The record in the n bytes from a place on.
@@ -126,11 +126,19 @@ fn whole(
 }
 
 // A record that is too long, by its first 52 bytes; one that the input ends in is malformed.
-fn long(window: &[u8], text: &mut [u8], tables: &[u8], area: &[u8], run: Run, n: usize) -> Session {
+fn long(
+    rt: &HostRuntime,
+    window: &[u8],
+    text: &mut [u8],
+    tables: &[u8],
+    area: &[u8],
+    run: Run,
+    n: usize,
+) -> Session {
     let start = std::num::wrapping_add_usize(run.from, 4);
     let end = std::num::wrapping_add_usize(start, 52);
     let session = run.session;
-    if has_all(start, run.end, n) {
+    if has_all(rt, start, run.end, n) {
         if start <= end {
             if end <= window.len() {
                 let head = &window[start..end];
@@ -142,6 +150,7 @@ fn long(window: &[u8], text: &mut [u8], tables: &[u8], area: &[u8], run: Run, n:
 }
 
 fn turn(
+    rt: &HostRuntime,
     window: &mut [u8; 65536],
     text: &mut [u8; 131072],
     tables: &mut [u8; 14912],
@@ -156,7 +165,7 @@ fn turn(
             let s = whole(window, text, tables, area, routes, entries, run, start, n);
             let reader = s.reader;
             Run {
-                session: flushed(text, s.session, MOST),
+                session: flushed(rt, text, s.session, MOST),
                 reader: reader,
                 from: std::num::wrapping_add_usize(start, n),
                 end: run.end,
@@ -164,14 +173,14 @@ fn turn(
         }
         Next::Long(n) => {
             let mut next = run;
-            next.session = long(window, text, tables, area, run, n);
+            next.session = long(rt, window, text, tables, area, run, n);
             next
         }
-        Next::Part => refilled(window, text, run),
+        Next::Part => refilled(rt, window, text, run),
     }
 }
 
-fn main() {
+fn main(rt: HostRuntime) {
     let mut window = [0u8; 65536];
     let mut text = [0u8; 131072];
     let mut tables = [0u8; 14912];
@@ -184,9 +193,9 @@ fn main() {
         from: 0,
         end: 0,
     };
-    let mut turns = u64::MAX;
-    while 0 < turns {
+    for _ in 0..u64::MAX {
         run = turn(
+            &rt,
             &mut window,
             &mut text,
             &mut tables,
@@ -197,9 +206,8 @@ fn main() {
         );
         let session = run.session;
         if session.stopped {
-            flushed(&text, session, 0);
+            flushed(&rt, &text, session, 0);
             return;
         }
-        turns -= 1;
     }
 }

@@ -45,17 +45,14 @@ fn signed(word: &[u8], w: usize, out: &mut [u8; 131072], at: usize) -> Written {
 // Bytes as they are, two digits each.
 fn bytes(word: &[u8], out: &mut [u8; 131072], at: usize) -> Written {
     let mut p = Written { at: at, good: true };
-    let mut left = word.len();
-    while 0 < left {
-        if left < 2 {
+    for pair in word.chunks(2) {
+        if pair.len() < 2 {
             return bad(at);
         }
-        let i = word.len() - left;
-        p = number(words::part(word, i, i + 2), 1, true, out, p.at);
+        p = number(pair, 1, true, out, p.at);
         if !p.good {
             return p;
         }
-        left -= 2;
     }
     p
 }
@@ -88,13 +85,11 @@ fn address(word: &[u8], out: &mut [u8; 131072], at: usize) -> Written {
 
 fn repeated(word: &[u8], n: u64, out: &mut [u8; 131072], at: usize) -> Written {
     let mut p = Written { at: at, good: true };
-    let mut left = n;
-    while 0 < left {
+    for _ in 0..n {
         p = address(word, out, p.at);
         if !p.good {
             return p;
         }
-        left -= 1;
     }
     p
 }

@@ -72,8 +72,7 @@ pub struct Walked {
 // The row of a word; an empty one where there is none.
 pub fn row(forms: &[u8], name: &[u8]) -> Word {
     let mut from = 0;
-    let mut turns: usize = 64;
-    while 0 < turns {
+    for _ in 0..64 {
         let end = words::find(forms, from, b'\n');
         let first = words::next(forms, from);
         if words::same(words::part(forms, first.from, first.end), name) {
@@ -83,7 +82,6 @@ pub fn row(forms: &[u8], name: &[u8]) -> Word {
             };
         }
         from = std::num::wrapping_add_usize(end, 1);
-        turns -= 1;
     }
     Word { from: 0, end: 0 }
 }
@@ -218,13 +216,11 @@ fn step(line: &[u8], form: &[u8], w: Walked, out: &mut [u8; 131072]) -> Walked {
 // The fields of a line. There are fewer of them than turns: a line has at most 65,536 bytes.
 pub fn walk(line: &[u8], form: &[u8], start: Walked, out: &mut [u8; 131072]) -> Walked {
     let mut w = start;
-    let mut turns: usize = 65536;
-    while 0 < turns {
+    for _ in 0..65536 {
         w = step(line, form, w, out);
         if w.done {
             return w;
         }
-        turns -= 1;
     }
     w
 }

@@ -48,6 +48,7 @@ fn put_head(out: &mut [u8; 131072], n: u64, kind: u64) {
 
 // After the walk: something was wrong, or words are left, or the record is done.
 fn ended(
+    rt: &HostRuntime,
     line: &[u8],
     form: &[u8],
     number: u64,
@@ -72,11 +73,18 @@ fn ended(
         return refused(number, forms::NO_ROOM, b"");
     }
     put_head(out, w.at as u64, kind);
-    streams::write_front(out, w.at)
+    streams::write_front(&mut rt.stdout(), out, w.at)
 }
 
 // The record of a line whose first word ends at a place, by its row: a word, the kind, the fields.
-fn record(line: &[u8], at: usize, form: &[u8], number: u64, out: &mut [u8; 131072]) -> bool {
+fn record(
+    rt: &HostRuntime,
+    line: &[u8],
+    at: usize,
+    form: &[u8],
+    number: u64,
+    out: &mut [u8; 131072],
+) -> bool {
     let word = words::next(form, 0);
     let second = words::next(form, word.end);
     let kind = numbers::number(words::part(form, second.from, second.end), true);
@@ -90,11 +98,11 @@ fn record(line: &[u8], at: usize, form: &[u8], number: u64, out: &mut [u8; 13107
         wrong: 0,
     };
     let w = forms::walk(line, form, start, out);
-    ended(line, form, number, kind.value, w, out)
+    ended(rt, line, form, number, kind.value, w, out)
 }
 
 // A line without its comment; one without a word is nothing.
-fn taken(line: &[u8], number: u64, out: &mut [u8; 131072]) -> bool {
+fn taken(rt: &HostRuntime, line: &[u8], number: u64, out: &mut [u8; 131072]) -> bool {
     let first = words::next(line, 0);
     let from = first.from;
     let end = first.end;
@@ -107,12 +115,18 @@ fn taken(line: &[u8], number: u64, out: &mut [u8; 131072]) -> bool {
         return refused(number, forms::UNKNOWN, name);
     }
     let form = words::part(&forms::FORMS, row.from, row.end);
-    record(line, end, form, number, out)
+    record(rt, line, end, form, number, out)
 }
 
 // A whole line, of so many bytes. Its comment is cut off.
-pub fn line(text: &[u8], length: usize, number: u64, out: &mut [u8; 131072]) -> bool {
+pub fn line(
+    rt: &HostRuntime,
+    text: &[u8],
+    length: usize,
+    number: u64,
+    out: &mut [u8; 131072],
+) -> bool {
     let all = words::part(text, 0, length);
     let end = words::find(all, 0, b'#');
-    taken(words::part(all, 0, end), number, out)
+    taken(rt, words::part(all, 0, end), number, out)
 }

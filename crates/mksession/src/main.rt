@@ -20,17 +20,23 @@ struct Run {
     stopped: bool,
 }
 
-fn end_line(run: Run, line: &[u8; 65536], out: &mut [u8; 131072]) -> Run {
+fn end_line(rt: &HostRuntime, run: Run, line: &[u8; 65536], out: &mut [u8; 131072]) -> Run {
     let mut next = run;
-    next.stopped = !lines::line(line, run.length, run.number, out);
+    next.stopped = !lines::line(rt, line, run.length, run.number, out);
     next.number = std::num::wrapping_add_u64(run.number, 1);
     next.length = 0;
     next
 }
 
-fn take_byte(run: Run, b: u8, line: &mut [u8; 65536], out: &mut [u8; 131072]) -> Run {
+fn take_byte(
+    rt: &HostRuntime,
+    run: Run,
+    b: u8,
+    line: &mut [u8; 65536],
+    out: &mut [u8; 131072],
+) -> Run {
     if b == b'\n' {
-        return end_line(run, line, out);
+        return end_line(rt, run, line, out);
     }
     let n = run.length;
     let mut next = run;
@@ -44,8 +50,14 @@ fn take_byte(run: Run, b: u8, line: &mut [u8; 65536], out: &mut [u8; 131072]) ->
 }
 
 // More of the text. The last line may lack its end; where the text can't be read, there is no last line.
-fn read_some(run: Run, text: &mut [u8; 65536], line: &[u8; 65536], out: &mut [u8; 131072]) -> Run {
-    let input = streams::read(text);
+fn read_some(
+    rt: &HostRuntime,
+    run: Run,
+    text: &mut [u8; 65536],
+    line: &[u8; 65536],
+    out: &mut [u8; 131072],
+) -> Run {
+    let input = streams::read(&mut rt.stdin(), text);
     let mut next = run;
     match input {
         Input::Bytes(n) => {
@@ -53,7 +65,7 @@ fn read_some(run: Run, text: &mut [u8; 65536], line: &[u8; 65536], out: &mut [u8
             next.end = n;
             return next;
         }
-        Input::End => next = end_line(run, line, out),
+        Input::End => next = end_line(rt, run, line, out),
         Input::Failed => {
             lines::refused(run.number, forms::UNREAD, b"");
         }
@@ -62,17 +74,23 @@ fn read_some(run: Run, text: &mut [u8; 65536], line: &[u8; 65536], out: &mut [u8
     next
 }
 
-fn turn(run: Run, text: &mut [u8; 65536], line: &mut [u8; 65536], out: &mut [u8; 131072]) -> Run {
+fn turn(
+    rt: &HostRuntime,
+    run: Run,
+    text: &mut [u8; 65536],
+    line: &mut [u8; 65536],
+    out: &mut [u8; 131072],
+) -> Run {
     let at = run.at;
     if at < run.end {
         let mut next = run;
         next.at = at + 1;
-        return take_byte(next, rows::byte_at(text, at), line, out);
+        return take_byte(rt, next, rows::byte_at(text, at), line, out);
     }
-    read_some(run, text, line, out)
+    read_some(rt, run, text, line, out)
 }
 
-fn main() {
+fn main(rt: HostRuntime) {
     let mut text = [0u8; 65536];
     let mut line = [0u8; 65536];
     let mut out = [0u8; 131072];
@@ -83,12 +101,10 @@ fn main() {
         end: 0,
         stopped: false,
     };
-    let mut turns = u64::MAX;
-    while 0 < turns {
-        run = turn(run, &mut text, &mut line, &mut out);
+    for _ in 0..u64::MAX {
+        run = turn(&rt, run, &mut text, &mut line, &mut out);
         if run.stopped {
             return;
         }
-        turns -= 1;
     }
 }

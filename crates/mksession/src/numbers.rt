@@ -65,13 +65,11 @@ pub fn number(word: &[u8], hexadecimal: bool) -> Parsed {
         value: 0,
         good: 0 < word.len(),
     };
-    let mut i = 0;
-    while i < word.len() {
-        n = with_digit(n.value, word[i], hexadecimal);
+    for b in word {
+        n = with_digit(n.value, *b, hexadecimal);
         if !n.good {
             return n;
         }
-        i += 1;
     }
     n
 }

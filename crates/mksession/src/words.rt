@@ -26,12 +26,10 @@ pub fn same(s: &[u8], word: &[u8]) -> bool {
 
 // The first place of a byte from a place on; the slice's end where there is none.
 pub fn find(s: &[u8], from: usize, b: u8) -> usize {
-    let mut i = from;
-    while i < s.len() {
+    for i in from..s.len() {
         if s[i] == b {
             return i;
         }
-        i += 1;
     }
     s.len()
 }

@@ -1,6 +1,5 @@
 -- What the contract of a read says of the count that it answers.
-use Prim.Native.Nat.{ℕ, ◌≤◌, ◌<◌}
-use mathlib.Core.Path.{◌≡◌, subst}
+use Rattle.std.proofs.Common.{ℕ, ◌≤◌, ◌<◌, ◌≡◌, subst}
 use Rattle.streams.specs.Reads.{Within}
 use Rattle.streams.specs.declared.Input.{Input}
 use Rattle.streams.specs.declared.Input.TheVariants.{Bytes}

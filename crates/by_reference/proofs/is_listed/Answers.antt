@@ -1,10 +1,8 @@
-use Prim.Native.Nat.{◌-◌, ◌≤◌}
 use mathlib.Core.Path.{◌≡◌, refl, sym, ◌∙◌}
 use native.Mathlib.Omega.{arith}
-use lib.ListN.{length, take, drop}
+use lib.ListN.{length}
 use borrow.Author.Rules.{rules}
 use Rattle.router.specs.Router.{max_routes}
-use Rattle.by_reference.specs.Search.{listed_in}
 use Rattle.by_reference.proofs.Routes.{listed_here, listed_behind, listed_end}
 use Rattle.by_reference.proofs.is_listed.Goals as goal
 

@@ -1,12 +1,8 @@
 -- The loop keeps that the records left decide.
 use Prim.Native.Nat.{◌-◌, ◌≤◌}
-use mathlib.Core.Path.{◌≡◌, refl, sym, ◌∙◌}
-use native.Mathlib.Omega.{arith}
-use lib.ListN.{length, take, drop}
-use borrow.Author.Rules.{rules}
-use Rattle.router.specs.Router.{max_routes}
+use mathlib.Core.Path.{◌≡◌}
+use lib.ListN.{take, drop}
 use Rattle.by_reference.specs.Search.{listed_in}
-use Rattle.by_reference.proofs.Routes.{listed_here, listed_behind, listed_end}
 use Rattle.by_reference.proofs.is_listed.Given as goal
 
 abbrev pub invariant-loop-i : goal.invariant-loop-i

@@ -1,7 +1,6 @@
 use mathlib.Core.Path.{ap, ◌∙◌}
 use mathlib.Core.Bool.{not}
 use borrow.Author.Tests.{not-true, not-false}
-use borrow.Author.Rules.{rules}
 use Rattle.by_reference.proofs.Routes.{not_sound, too_many, too_high, asked_of_one}
 use Rattle.by_reference.proofs.is_taken.Goals as goal
 

@@ -1,6 +1,8 @@
 use Rattle.records.specs.Records.{as_stated}
 use borrow.Author.Tests.{ne_eqb}
 use borrow.Author.Rules.{rules}
+use Rattle.std.proofs.lemmas.Bool.Decides.{nat_tests}
+use Rattle.std.proofs.Common.{arith}
 use Rattle.records.proofs.is_as_stated.Goals as goal
 
 pub returns-then-p-ne34 : goal.returns-then-p-ne34
@@ -33,6 +35,4 @@ returns-else-p-ne1 c = rw (c.in-5.is, c.if-p-ne1.false) c.is_byte_within-in-5.en
 
 pub returns-in_default : goal.returns-in_default
 unfolding as_stated
-returns-in_default c = let k = c.args.kind in
-    let n = c.in-1.rest in
-    rw (ne_eqb k 1 n.0.0.0.0.1, ne_eqb k 2 n.0.0.0.1, ne_eqb k 3 n.0.0.1, ne_eqb k 4 n.0.1, ne_eqb k 5 n.1)
+returns-in_default c = grind (arith, nat_tests)

@@ -11,5 +11,5 @@ pub returns : goal.returns
 returns c =
     let c-pre = c.requires in
     let s = c.args.state in
-    let n : length s.ranges ≡ max_ranges = c.good.0.1.1.0.1.0.1 in
+    let n : length s.ranges ≡ max_ranges = search rules in
     sym (held_last s.ranges s.len (omega (arith, c-pre)) c-pre.0)

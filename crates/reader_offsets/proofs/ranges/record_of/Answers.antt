@@ -12,12 +12,12 @@ pub returns-then-state-at : goal.returns-then-state-at
 returns-then-state-at c =
     let c-args = c.args in
     let s = c-args.state in
-    let n : length s.ranges ≡ max_ranges = c.good.0.1.1.0.1.0.1 in
+    let n : length s.ranges ≡ max_ranges = search rules in
     sym (ap (record_of c-args.par_id) (held_past s.ranges s.len (omega (arith, c.requires)) c-args.at c.if-state-at.true))
 
 pub returns : goal.returns
 returns c =
     let c-args = c.args in
     let s = c-args.state in
-    let n : length s.ranges ≡ max_ranges = c.good.0.1.1.0.1.0.1 in
+    let n : length s.ranges ≡ max_ranges = search rules in
     c.record_at.ensures ∙ sym (ap (record_of c-args.par_id) (held_at s.ranges s.len (omega (arith, c.requires)) c-args.at c.if-state-at.false))

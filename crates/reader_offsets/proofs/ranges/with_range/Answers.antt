@@ -12,5 +12,5 @@ returns c =
     let c-args = c.args in
     let c-pre = c.requires in
     let s = c-args.reader in
-    let n : length s.reader_state.ranges ≡ max_ranges = c.good.0.1.1.1.1.1.1.1.0.1.1.0.1.0.1 in
+    let n : length s.reader_state.ranges ≡ max_ranges = search rules in
     c.with_ranges.ensures ∙ held_set s (omega (arith, c-pre)) c-args.at c-args.range c-pre.0

@@ -14,5 +14,5 @@ returns c =
     let c-args = c.args in
     let c-pre = c.requires in
     let s = c-args.reader in
-    let n : length s.reader_state.ranges ≡ max_ranges = c.good.0.1.1.1.1.1.1.1.0.1.1.0.1.0.1 in
+    let n : length s.reader_state.ranges ≡ max_ranges = search rules in
     c.with_range.ensures ∙ ap (λ (r : ExternalsRangeReaderState). with_held (set (held_ranges s.reader_state) c-args.at r) s) (c.with_record-next.ensures ∙ ap (with_record c-args.par_id c-args.held) (sym (held_at s.reader_state.ranges s.reader_state.len (omega (arith, c-pre)) c-args.at c-pre.0)))

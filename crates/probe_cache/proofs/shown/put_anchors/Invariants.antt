@@ -1,0 +1,12 @@
+use Rattle.text.proofs.Laws.{puts_nothing, puts_on}
+use Rattle.text.specs.Shown.{Puts}
+use Rattle.std.proofs.Common.{◌≡◌, ◌-◌, length, refl, rules}
+use Rattle.probe_cache.proofs.shown.put_anchors.Given as goal
+
+abbrev pub invariant-loop-i : goal.invariant-loop-i
+invariant-loop-i l =
+    (length l.out ≡ length l.initial.out)
+    × Puts (record { at = l.at; bytes = l.initial.out }) (record { at = l.to; bytes = l.out })
+
+abbrev pub decreases-loop-i : goal.decreases-loop-i
+decreases-loop-i l = l.len - l.i

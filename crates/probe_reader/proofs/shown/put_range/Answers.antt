@@ -1,0 +1,6 @@
+use Rattle.text.proofs.Laws.{puts_on}
+use borrow.Author.Rules.{rules}
+use Rattle.probe_reader.proofs.shown.put_range.Goals as goal
+
+pub returns : goal.returns
+returns c = puts_on _ _ _ (puts_on _ _ _ (_, c.put-named.ensures) (_, c.put_numbers-to.ensures)) c.put_partitions.ensures

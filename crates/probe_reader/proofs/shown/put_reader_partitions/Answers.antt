@@ -1,0 +1,16 @@
+use Rattle.text.proofs.Laws.{puts_nothing, puts_on}
+use Rattle.text.specs.Shown.{Puts}
+use borrow.Author.Rules.{rules}
+use Prim.Native.Nat.{◌-◌}
+use mathlib.Core.Path.{◌≡◌, refl}
+use lib.ListN.{length}
+use Rattle.probe_reader.proofs.shown.put_reader_partitions.Goals as goal
+
+pub loop-i-init : goal.loop-i-init
+loop-i-init c = (refl, puts_nothing _)
+
+pub loop-i-preserved : goal.loop-i-preserved
+loop-i-preserved c = (search rules, puts_on _ _ _ c.loop-i.invariant.1 c.put_reader_partition-to.ensures)
+
+pub returns : goal.returns
+returns c = c.loop-i.invariant.1

@@ -1,0 +1,8 @@
+use Rattle.session_rules.specs.Said.{stop, bad_said}
+use Rattle.session_rules.proofs.Printed.{printed_text}
+use borrow.Author.Rules.{rules}
+use Rattle.session_state.proofs.bad.Goals as goal
+
+pub returns : goal.returns
+unfolding bad_said
+returns c = printed_text (stop c.args.session) _ _ _ _ c.put_bad.ensures

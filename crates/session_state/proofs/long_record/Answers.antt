@@ -1,0 +1,13 @@
+use Rattle.session_rules.proofs.Printed.{printed_same, printed_no_text, long_stopped}
+use Rattle.session_state.proofs.Laws.{long_refused}
+use borrow.Author.Rules.{rules}
+use Rattle.session_state.proofs.long_record.Goals as goal
+
+pub returns-then-session : goal.returns-then-session
+returns-then-session c = printed_no_text _ _ _ (long_stopped _ _ c.args.session _ _ c.if-session.true)
+
+pub returns : goal.returns
+returns c =
+    let c-counted = c.record_counted-next in
+    let c-long-number = c.long_number-number in
+    printed_same _ _ _ _ c.bad.ensures (long_refused _ _ c.args.session c-counted.result _ _ c-long-number.result c.if-session.false c-counted.ensures c-long-number.ensures)
