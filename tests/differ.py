@@ -11,8 +11,8 @@ Makes K sessions (20,000 unless told; 200 for cuts) with seeds N.. by oracle/gen
 -x for extprobe) and the program, and tells the first session where they part, with its records and the first lines that
 differ. Also told: how often each call answered each number. extread runs once for each session, extprobe on a list of them.
 
-The programs are target/bin/extread and target/bin/extprobe, where `rt check extread extprobe` puts them. The oracle is
-oracle/target/release/oracle (`cargo build --release --offline`).
+The programs are crates/extread/out/extread and crates/extprobe/out/extprobe, where `rt run` in crates/extread and in
+crates/extprobe leaves them. The oracle is oracle/target/release/oracle (`cargo build --release --offline`).
 """
 import argparse
 import collections
@@ -31,6 +31,11 @@ import gen_sessions  # noqa: E402
 # Lines that are no call's.
 OTHERS = ('S', 'free', 'add', 'count', 'range', 'answer', 'at_ct', 'in_range', 'end', 'bad')
 VALGRIND = 'valgrind -q --error-exitcode=9 '
+
+
+def built(name, folder=None):
+    """Where a program is: in the folder that is given, or where `rt run` leaves it."""
+    return os.path.join(folder or os.path.join(TOP, 'crates', name, 'out'), name)
 
 
 def framed(sessions, plain=False):
@@ -170,7 +175,7 @@ def main():
     probe = a.what == 'extprobe'
     kind = a.kind or ('reader' if probe else 'plain')
     end = a.seed + (a.count or {'cuts': 200, 'long': 1}.get(a.what, 20000))
-    program = a.program or os.path.join(TOP, 'target', 'bin', 'extprobe' if probe else 'extread')
+    program = a.program or built('extprobe' if probe else 'extread')
     run = by_extprobe if probe else by_extread
     total, parts, seen = 0, 0, collections.Counter()
     step = 10 if a.what == 'cuts' else 5000

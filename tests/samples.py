@@ -2,8 +2,8 @@
 """The samples in samples/, read a second time: the text form of crates/mksession/README.md.
 
     tests/samples.py [--oracle FILE]          writes samples/*.out, and stdin and stdout of crates/mksession
-    tests/samples.py --programs DIR           runs each sample through DIR/mksession and DIR/extread or DIR/extprobe
-    tests/samples.py --mksession FILE [--count K]
+    tests/samples.py --programs [DIR]         runs each sample through mksession and extread or extprobe, of DIR or of crates/NAME/out
+    tests/samples.py --mksession [FILE] [--count K]
                                               runs mksession on wrong lines, and on K random sessions written as text, whole and spoilt
     tests/samples.py --text FILE              a session's records as text
 
@@ -20,7 +20,7 @@ import subprocess
 import sys
 
 sys.dont_write_bytecode = True
-from differ import TOP, by_oracle, gen_sessions as g  # noqa: E402
+from differ import TOP, built, by_oracle, gen_sessions as g  # noqa: E402
 import fixed_list as x  # noqa: E402
 
 DOS = ['open', 'pop', 'read', 'refill', 'commit', 'rollback', 'close']
@@ -399,8 +399,8 @@ def try_samples(where):
     """Each sample through the programs: what they print is in NAME.out."""
     differ = 0
     for path, text, program in samples():
-        data, err = run(os.path.join(where, 'mksession'), text)
-        out, _ = run(os.path.join(where, program), data)
+        data, err = run(built('mksession', where), text)
+        out, _ = run(built(program, where), data)
         with open(path + '.out', 'rb') as f:
             same = err == '' and out == f.read()
         differ += not same
@@ -411,19 +411,20 @@ def try_samples(where):
 def main():
     p = argparse.ArgumentParser(description=__doc__, formatter_class=argparse.RawDescriptionHelpFormatter)
     p.add_argument('--oracle', default=os.path.join(TOP, 'oracle', 'target', 'release', 'oracle'))
-    p.add_argument('--programs')
-    p.add_argument('--mksession')
+    p.add_argument('--programs', nargs='?', const='', metavar='DIR')
+    p.add_argument('--mksession', nargs='?', const='', metavar='FILE')
     p.add_argument('--count', type=int, default=600)
     p.add_argument('--text')
     a = p.parse_args()
     if a.text:
         with open(a.text, 'rb') as f:
             sys.stdout.write(text_of(f.read()))
-    elif a.programs:
+    elif a.programs is not None:
         return try_samples(a.programs)
-    elif a.mksession:
-        try_wrong(a.mksession)
-        try_random(a.mksession, a.count)
+    elif a.mksession is not None:
+        program = a.mksession or built('mksession')
+        try_wrong(program)
+        try_random(program, a.count)
     else:
         write_all(a.oracle)
     return 0

@@ -3,7 +3,8 @@
 
     tests/streams.py [--programs DIR] [--sessions N]
 
-The programs are target/bin/extread, extprobe and mksession, where `rt check extread extprobe mksession` puts them.
+The programs are those that `rt run` leaves in crates/extread, extprobe and mksession, each in its folder out; with
+--programs all three are in DIR.
 Slow input is a pipe that does not block: a reader that comes too early is told to come again. A few bytes are written
 every 20 ms, a larger session in pieces of about its hundredth part. Slow output is a small pipe that does not block and is
 emptied by 1,000 bytes every 2 ms. What is printed must be what is printed for the file.
@@ -21,11 +22,10 @@ import sys
 import threading
 import time
 
-TOP = os.path.dirname(os.path.dirname(os.path.abspath(__file__)))
 sys.dont_write_bytecode = True
-sys.path.insert(0, os.path.join(TOP, 'oracle', 'gen'))
-import gen_sessions as g  # noqa: E402
+from differ import TOP, built, gen_sessions as g  # noqa: E402
 
+NAMES = ('extread', 'extprobe', 'mksession')
 SECONDS = 20    # for a run that is to end at once
 
 
@@ -73,7 +73,7 @@ def slow_runs(programs, count):
     """Name, words and input of each run: the stored sessions, larger ones, and the samples as text."""
     with open(os.path.join(TOP, 'crates', 'extread', 'stdin'), 'rb') as f:
         sample = f.read()
-    extread, extprobe, mksession = ([os.path.join(programs, n)] for n in ('extread', 'extprobe', 'mksession'))
+    extread, extprobe, mksession = ([programs[n]] for n in NAMES)
     yield 'sample', extread, sample
     yield 'sample', extprobe, sample
     for i in range(count):
@@ -104,7 +104,7 @@ def try_slow(programs, count):
 
 
 def try_slow_output(programs):
-    words = [os.path.join(programs, 'extread')]
+    words = [programs['extread']]
     want = on_file(words, many()).stdout
     out, into = os.pipe()
     fcntl.fcntl(into, fcntl.F_SETPIPE_SZ, 4096)
@@ -131,7 +131,7 @@ def try_reset(programs):
         data = f.read()
     bad = 0
     for name in ('extread', 'extprobe'):
-        words = [os.path.join(programs, name)]
+        words = [programs[name]]
         lines = on_file(words, data).stdout.splitlines(True)
         want = b''.join(lines[:-1]) + b'bad 8 17\n'
         with socket.create_server(('127.0.0.1', 0)) as server:
@@ -152,8 +152,9 @@ def try_reset(programs):
 def shell(programs, line, data=b''):
     """What a line of the shell gives; it must end soon. SIGPIPE is ignored, so that a write to a closed pipe fails."""
     ignore = lambda: signal.signal(signal.SIGPIPE, signal.SIG_IGN)    # noqa: E731
+    folders = ''.join(os.path.dirname(path) + ':' for path in programs.values())
     done = subprocess.run(['sh', '-c', line], input=data, capture_output=True, timeout=SECONDS, preexec_fn=ignore, restore_signals=False,
-                          env=dict(os.environ, PATH=programs + ':' + os.environ['PATH']))
+                          env=dict(os.environ, PATH=folders + os.environ['PATH']))
     return done.stdout.decode('latin-1'), done.stderr.decode('latin-1')
 
 
@@ -198,10 +199,11 @@ def try_failing(programs):
 
 def main():
     p = argparse.ArgumentParser(description=__doc__, formatter_class=argparse.RawDescriptionHelpFormatter)
-    p.add_argument('--programs', default=os.path.join(TOP, 'target', 'bin'))
+    p.add_argument('--programs', metavar='DIR')
     p.add_argument('--sessions', type=int, default=6)
     a = p.parse_args()
-    bad = try_failing(a.programs) + try_reset(a.programs) + try_slow_output(a.programs) + try_slow(a.programs, a.sessions)
+    programs = {n: os.path.abspath(built(n, a.programs)) for n in NAMES}
+    bad = try_failing(programs) + try_reset(programs) + try_slow_output(programs) + try_slow(programs, a.sessions)
     print('%d differ' % bad)
     return bad != 0
 
