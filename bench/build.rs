@@ -1,6 +1,6 @@
-//! Links libhost.a, which `rt staticlib host` makes in target/staticlib of the repository.
+//! Links libhost.a, which `rt lib` in crates/host makes in its folder out.
 fn main() {
-    let dir = concat!(env!("CARGO_MANIFEST_DIR"), "/../target/staticlib");
+    let dir = concat!(env!("CARGO_MANIFEST_DIR"), "/../crates/host/out");
     println!("cargo:rustc-link-search=native={dir}");
     println!("cargo:rustc-link-lib=static=host");
     println!("cargo:rerun-if-changed={dir}/libhost.a");

@@ -2,9 +2,9 @@
 """How the loop over messages (`messages_read` of range_reader) is compiled, as a table in Markdown: compares and
 instructions, on x86-64 and on two processors of 32 bits.
 
-`rt staticlib host` hands one LLVM module to the kit's clang. A copy of the kit, whose clang is a script, keeps it. Then
-`messages_read` is set `noinline`, so that its loop stands alone, and the module is compiled for each processor. The kit
-knows a `usize` of 64 bits alone, so places and lengths are 64 bits on the small processors too.
+`rt lib`, in crates/host, hands one LLVM module to the kit's clang. A copy of the kit, whose clang is a script, keeps
+it. Then `messages_read` is set `noinline`, so that its loop stands alone, and the module is compiled for each processor.
+The kit knows a `usize` of 64 bits alone, so places and lengths are 64 bits on the small processors too.
 
     ./walk.py [--module FILE] [--keep DIR]
 
@@ -27,12 +27,14 @@ import sys
 import tempfile
 
 ROOT = pathlib.Path(__file__).resolve().parent.parent
-CLANG = pathlib.Path("on", os.uname().machine, "toolchain/bin/clang")  # in the kit
+CLANG = pathlib.Path("toolchain/bin/clang")  # in the kit
+RT = (pathlib.Path("bin/rt"), pathlib.Path("bin/rtlib.py"))  # rt takes the kit that its file lies in
 WALK = '"range_reader::messages::messages_read"'
 PROCESSORS = {
-    # with the options of `rt staticlib`
+    # with the options of `rt lib`
     "x86-64": "--target=x86_64-unknown-linux-gnu -march=x86-64 -fPIC -O3 -ffunction-sections -fdata-sections"
-              " -mllvm -trap-unreachable -mllvm -no-trap-after-noreturn",
+              " -mllvm -trap-unreachable -mllvm -no-trap-after-noreturn -mllvm -no-x86-call-frame-opt"
+              " -mllvm -disable-machine-licm -mllvm -disable-postra-machine-licm -mllvm -sink-common-insts=false",
     "ARMv7": "--target=armv7a-none-eabi -march=armv7-a -O3",
     "RISC-V 32": "--target=riscv32-unknown-elf -march=rv32imac -mabi=ilp32 -O3",
 }
@@ -56,20 +58,22 @@ def kit():
 
 
 def build(module, copy):
-    """The copy is links into the kit; only the folders on the way to its clang are new ones."""
-    for folder in reversed(CLANG.parents):
+    """The copy is links into the kit; only the folders on the way to its clang and to rt, and rt, are new ones."""
+    new = (CLANG, *CLANG.parents, *RT, *RT[0].parents)
+    for folder in sorted({*CLANG.parents, *RT[0].parents}):
         (copy / folder).mkdir()
         for entry in (kit() / folder).iterdir():
-            if folder / entry.name not in (CLANG, *CLANG.parents):
+            if folder / entry.name not in new:
                 (copy / folder / entry.name).symlink_to(entry)
+    for file in RT:
+        shutil.copy(kit() / file, copy / file)
     # the kit clears the environment before it calls clang, so the script has the paths in it
     (copy / CLANG).write_text(f"""#!/bin/sh
 for word; do case $word in *.bc) cp "$word" '{module}' ;; esac; done
 exec '{kit() / CLANG}' "$@"
 """)
     (copy / CLANG).chmod(0o755)
-    env = {**os.environ, "RATTLE_HOME": str(copy)}
-    subprocess.run([kit() / "bin/rt", "staticlib", "host"], cwd=ROOT, env=env, stdout=sys.stderr, check=True)
+    subprocess.run([copy / RT[0], "lib"], cwd=ROOT / "crates/host", stdout=sys.stderr, check=True)
 
 
 def clang(source, target, *options):

@@ -96,10 +96,10 @@ def constants(text):
 def in_scope(text):
     """The constants that a file declares, and those of other crates that it names by `use`."""
     found = constants(text)
-    for crate, name in re.findall(r'use (\w+)::([A-Z][A-Z0-9_]*);', text):
+    for crate, names in re.findall(r'use (\w+)::(\w+|\{[^}]*\});', text):
         path = CRATES / crate / 'src' / 'lib.rt'
         if path.exists():
-            found.update((n, v) for n, v in constants(read(path)).items() if n == name)
+            found.update((n, v) for n, v in constants(read(path)).items() if n in re.findall(r'\w+', names))
     return found
 
 
@@ -163,7 +163,7 @@ def library(differences):
     found = re.findall(exported, read(CRATES / 'host' / 'src' / 'lib.rt'), re.S)
     calls = by_name([(n, Call(list(lent(named(p, {}))), r)) for n, p, r in found], 'lib.rt', differences)
     sources = sorted(CRATES.glob('*/src/**/*.rt'))
-    declared = [s for path in sources for s in structs_in(read(path), r'#\[repr\(C\)\]\s*' + STRUCT)]
+    declared = [s for path in sources for s in structs_in(read(path), r'#\[repr\(C\)\]\s*(?:#\[derive[^\n]*\n)*' + STRUCT)]
     return Found(calls, used_in(calls, declared, differences))
 
 

@@ -1,4 +1,4 @@
-/* The externals reader and its anchors cache, for a C host. Link with libhost.a (`rt staticlib host`).
+/* The externals reader and its anchors cache, for a C host. Link with crates/host/out/libhost.a (`rt lib` in crates/host).
  *
  * Every call answers a number: 0 is done, any other is the first of document 01's questions that was answered "no"; a refused call
  * leaves every state and every lent byte as it was.

@@ -136,14 +136,14 @@ fn is_read(reader: ExternalsReader, i: usize) -> bool {
     range.fully_read
 }
 
-fn print_line(name: &[u8], numbers: &[u64]) {
+fn print_line(rt: &HostRuntime, name: &[u8], numbers: &[u64]) {
     let mut line = [0u8; 256];
     let at = text::put_line(&mut line, 0, name, numbers);
-    streams::write_front(&line, at);
+    streams::write_front(&mut rt.stdout(), &line, at);
 }
 
 // What a read leaves: its number, the mark, how many ranges there are, and whether the last is fully read.
-fn print_read(name: &[u8], c: Case, refill: bool) {
+fn print_read(rt: &HostRuntime, name: &[u8], c: Case, refill: bool) {
     let mut out = [7u8; 60];
     let r = read(c, state::reader(c), refill, &mut out);
     let reader = r.reader;
@@ -156,49 +156,49 @@ fn print_read(name: &[u8], c: Case, refill: bool) {
         held.len as u64,
         is_read(reader, last) as u64,
     ];
-    print_line(name, &numbers);
+    print_line(rt, name, &numbers);
 }
 
-fn print_reads_of_none() {
+fn print_reads_of_none(rt: &HostRuntime) {
     let mut c = state::sound();
     c.len = 0;
-    print_read(b"continue no_ranges", c, false);
-    print_read(b"refill no_ranges", c, true);
+    print_read(rt, b"continue no_ranges", c, false);
+    print_read(rt, b"refill no_ranges", c, true);
     let mut d = c;
     d.block_seqno = 0;
-    print_read(b"continue no_ranges_block_0", d, false);
+    print_read(rt, b"continue no_ranges_block_0", d, false);
     d.block_seqno = 1;
-    print_read(b"continue no_ranges_block_1", d, false);
+    print_read(rt, b"continue no_ranges_block_1", d, false);
     let mut e = c;
     e.no_limits = true;
-    print_read(b"continue no_ranges_no_limits", e, false);
-    print_read(b"refill no_ranges_no_limits", e, true);
+    print_read(rt, b"continue no_ranges_no_limits", e, false);
+    print_read(rt, b"refill no_ranges_no_limits", e, true);
     let mut f = c;
     f.waiting = true;
-    print_read(b"continue no_ranges_waiting", f, false);
+    print_read(rt, b"continue no_ranges_waiting", f, false);
 }
 
-pub fn print_reads() {
-    print_reads_of_none();
+pub fn print_reads(rt: &HostRuntime) {
+    print_reads_of_none(rt);
     let mut c = state::sound();
-    print_read(b"continue sound", c, false);
-    print_read(b"refill sound", c, true);
+    print_read(rt, b"continue sound", c, false);
+    print_read(rt, b"refill sound", c, true);
     c.most = 2;
-    print_read(b"continue open_2", c, false);
+    print_read(rt, b"continue open_2", c, false);
     c.most = 0;
-    print_read(b"continue open_0", c, false);
+    print_read(rt, b"continue open_0", c, false);
     c.len = 1;
-    print_read(b"continue open_0_one_range", c, false);
+    print_read(rt, b"continue open_0_one_range", c, false);
     let mut d = state::sound();
     d.len = 16;
-    print_read(b"continue ranges_16", d, false);
+    print_read(rt, b"continue ranges_16", d, false);
     d.len = 17;
-    print_read(b"continue ranges_17", d, false);
+    print_read(rt, b"continue ranges_17", d, false);
     let mut e = state::sound();
     e.mark = true;
-    print_read(b"continue mark_set", e, false);
+    print_read(rt, b"continue mark_set", e, false);
     e.active = false;
-    print_read(b"continue mark_set_none_open", e, false);
+    print_read(rt, b"continue mark_set_none_open", e, false);
 }
 
 fn limit(most: u8) -> u64 {
@@ -211,7 +211,7 @@ fn limit(most: u8) -> u64 {
 }
 
 // The limit that counts, also where question 4 would refuse the number.
-pub fn print_limits() {
+pub fn print_limits(rt: &HostRuntime) {
     let numbers = [
         limit(0),
         limit(1),
@@ -220,5 +220,5 @@ pub fn print_limits() {
         limit(16),
         limit(255),
     ];
-    print_line(b"open_ranges_limit", &numbers);
+    print_line(rt, b"open_ranges_limit", &numbers);
 }

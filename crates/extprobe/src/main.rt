@@ -5,6 +5,7 @@ mod kinds;
 mod run;
 mod state;
 
+use std::{env, io};
 use streams::Input;
 
 // The next session of a list: how many bytes it has, and whether it is one of extread's; or the list is over; or it
@@ -16,18 +17,18 @@ enum Framed {
     Cut,
 }
 
-fn read_front(bytes: &mut [u8], n: usize) -> bool {
+fn read_front(rt: &HostRuntime, bytes: &mut [u8], n: usize) -> bool {
     if n <= bytes.len() {
-        let read = streams::fill(&mut bytes[0..n]);
+        let read = streams::fill(&mut rt.stdin(), &mut bytes[0..n]);
         return read.n == n;
     }
     false
 }
 
 // Its length, 4 bytes, then 1 for one of extread's or 0, then so many bytes.
-fn read_session(bytes: &mut [u8; 131072]) -> Framed {
+fn read_session(rt: &HostRuntime, bytes: &mut [u8; 131072]) -> Framed {
     let mut head = [0u8; 5];
-    let read = streams::fill(&mut head);
+    let read = streams::fill(&mut rt.stdin(), &mut head);
     if read.n < 5 {
         if read.n == 0 {
             if !read.failed {
@@ -37,20 +38,26 @@ fn read_session(bytes: &mut [u8; 131072]) -> Framed {
         return Framed::Cut;
     }
     let n = rows::u32_at(&head, 0) as usize;
-    if read_front(bytes, n) {
+    if read_front(rt, bytes, n) {
         return Framed::Bytes(n, head[4] == 1);
     }
     Framed::Cut
 }
 
-fn print_count(name: &[u8], n: u64) -> bool {
+// A line on the standard error.
+fn complain(rt: &HostRuntime, line: &[u8]) {
+    streams::write_front(&mut rt.stderr(), line, line.len());
+}
+
+fn print_count(rt: &HostRuntime, name: &[u8], n: u64) -> bool {
     let mut line = [0u8; 64];
     let at = text::put_line(&mut line, 0, name, &[n]);
-    streams::write_front(&line, at)
+    streams::write_front(&mut rt.stdout(), &line, at)
 }
 
 // Whether the session of this number was run and there may be more; behind the last one stands their number.
 fn replay_one(
+    rt: &HostRuntime,
     bytes: &mut [u8; 131072],
     tables: &mut [u8; 14912],
     area: &mut [u8; 33792],
@@ -58,13 +65,14 @@ fn replay_one(
     text: &mut [u8; 131072],
     k: u64,
 ) -> bool {
-    let framed = read_session(bytes);
+    let framed = read_session(rt, bytes);
     match framed {
         Framed::Bytes(n, plain) => {
-            if !print_count(b"session", k) {
+            if !print_count(rt, b"session", k) {
                 return false;
             }
             run::session(
+                rt,
                 bytes,
                 n,
                 tables,
@@ -75,12 +83,12 @@ fn replay_one(
             )
         }
         Framed::End => {
-            print_count(b"sessions", k);
+            print_count(rt, b"sessions", k);
             false
         }
         Framed::Cut => {
-            io::write_all(
-                2,
+            complain(
+                rt,
                 b"extprobe: the list has a session that is cut short or too long\n",
             );
             false
@@ -90,6 +98,7 @@ fn replay_one(
 
 // Sessions one after the other, each under a line `session` with its number.
 fn replay(
+    rt: &HostRuntime,
     bytes: &mut [u8; 131072],
     tables: &mut [u8; 14912],
     area: &mut [u8; 33792],
@@ -98,7 +107,7 @@ fn replay(
 ) {
     let mut k: u64 = 0;
     while k < u64::MAX {
-        if !replay_one(bytes, tables, area, routes, text, k) {
+        if !replay_one(rt, bytes, tables, area, routes, text, k) {
             return;
         }
         k += 1;
@@ -106,47 +115,72 @@ fn replay(
 }
 
 // What stands behind a session of n bytes.
-fn read_behind(n: usize) -> Input {
+fn read_behind(rt: &HostRuntime, n: usize) -> Input {
     let mut more = [0u8; 1];
     if n < 131072 {
         return Input::End;
     }
-    streams::read(&mut more)
+    streams::read(&mut rt.stdin(), &mut more)
 }
 
 // One session on standard input. A longer one than there is room for is not run.
 fn single(
+    rt: &HostRuntime,
     bytes: &mut [u8; 131072],
     tables: &mut [u8; 14912],
     area: &mut [u8; 33792],
     routes: &mut [u8; 8704],
     text: &mut [u8; 131072],
 ) {
-    let read = streams::fill(bytes);
+    let read = streams::fill(&mut rt.stdin(), bytes);
     let n = read.n;
     let mut cut = read.failed;
-    let behind = read_behind(n);
+    let behind = read_behind(rt, n);
     match behind {
         Input::Bytes(_) => {
-            io::write_all(2, b"extprobe: a session has at most 131,072 bytes\n");
+            complain(rt, b"extprobe: a session has at most 131,072 bytes\n");
             return;
         }
         Input::End => {}
         Input::Failed => cut = true,
     }
-    run::session(bytes, n, tables, area, routes, text, state::new(false, cut));
+    run::session(
+        rt,
+        bytes,
+        n,
+        tables,
+        area,
+        routes,
+        text,
+        state::new(false, cut),
+    );
 }
 
 // One session; with an argument, a list of them.
-fn main() {
+fn main(rt: HostRuntime) -> io::Result<()> {
     let mut bytes = [0u8; 131072];
     let mut text = [0u8; 131072];
     let mut tables = [0u8; 14912];
     let mut area = [0u8; 33792];
     let mut routes = [0u8; 8704];
-    if 1 < os::arg_count() {
-        replay(&mut bytes, &mut tables, &mut area, &mut routes, &mut text);
-        return;
+    if 1 < env::args(&rt)?.count() {
+        replay(
+            &rt,
+            &mut bytes,
+            &mut tables,
+            &mut area,
+            &mut routes,
+            &mut text,
+        );
+        return Ok(());
     }
-    single(&mut bytes, &mut tables, &mut area, &mut routes, &mut text);
+    single(
+        &rt,
+        &mut bytes,
+        &mut tables,
+        &mut area,
+        &mut routes,
+        &mut text,
+    );
+    Ok(())
 }

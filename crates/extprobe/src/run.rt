@@ -328,8 +328,8 @@ fn has_state(session: Session, plain: bool) -> bool {
 }
 
 // The text so far is written, and the next one begins at the front.
-fn flushed(text: &[u8; 131072], run: Run, at: usize) -> Run {
-    if streams::write_front(text, at) {
+fn flushed(rt: &HostRuntime, text: &[u8; 131072], run: Run, at: usize) -> Run {
+    if streams::write_front(&mut rt.stdout(), text, at) {
         return state::with_at(run, 0);
     }
     state::unwritten(run)
@@ -343,21 +343,22 @@ fn put_state(tables: &[u8], area: &[u8], text: &mut [u8; 131072], run: Run) -> u
 }
 
 // What is printed of the session so far; after each record behind the settings that is not refused the state follows.
-fn show(tables: &[u8], area: &[u8], text: &mut [u8; 131072], run: Run) -> Run {
+fn show(rt: &HostRuntime, tables: &[u8], area: &[u8], text: &mut [u8; 131072], run: Run) -> Run {
     let session = run.session;
-    let next = flushed(text, run, session.at);
+    let next = flushed(rt, text, run, session.at);
     if !next.written {
         return next;
     }
     if has_state(session, run.plain) {
         let at = put_state(tables, area, text, run);
-        return flushed(text, next, at);
+        return flushed(rt, text, next, at);
     }
     next
 }
 
 // The record in the n bytes from a place on.
 fn whole(
+    rt: &HostRuntime,
     bytes: &[u8],
     tables: &mut [u8; 14912],
     area: &mut [u8; 33792],
@@ -374,7 +375,7 @@ fn whole(
         return run;
     }
     let next = handled(tables, area, routes, text, run, &bytes[at..at + n]);
-    let mut after = show(tables, area, text, next);
+    let mut after = show(rt, tables, area, text, next);
     after.from = std::num::wrapping_add_usize(at, n);
     after
 }
@@ -388,6 +389,7 @@ fn is_cut(run: Run, end: usize) -> bool {
 
 // The input has ended, or ends inside a record.
 fn ended(
+    rt: &HostRuntime,
     tables: &[u8; 14912],
     area: &[u8; 33792],
     text: &mut [u8; 131072],
@@ -395,11 +397,12 @@ fn ended(
     end: usize,
 ) -> Run {
     let session = session_state::end(text, run.session, is_cut(run, end));
-    show(tables, area, text, state::with_session(run, session))
+    show(rt, tables, area, text, state::with_session(run, session))
 }
 
 // A long record is at hand whole here, unless the input ends in it.
 fn step(
+    rt: &HostRuntime,
     bytes: &[u8],
     end: usize,
     tables: &mut [u8; 14912],
@@ -411,20 +414,21 @@ fn step(
     let found = records::next_record(bytes, run.from, end);
     let from = std::num::wrapping_add_usize(run.from, 4);
     match found {
-        Next::Whole(at, n) => whole(bytes, tables, area, routes, text, run, at, n),
+        Next::Whole(at, n) => whole(rt, bytes, tables, area, routes, text, run, at, n),
         Next::Long(n) => {
             if rows::sum_within(from, n, end) {
-                return whole(bytes, tables, area, routes, text, run, from, n);
+                return whole(rt, bytes, tables, area, routes, text, run, from, n);
             }
-            ended(tables, area, text, run, end)
+            ended(rt, tables, area, text, run, end)
         }
-        Next::Part => ended(tables, area, text, run, end),
+        Next::Part => ended(rt, tables, area, text, run, end),
     }
 }
 
 // The session in the first `end` bytes; each record takes some of them, so that they end before the turns do.
 // Whether all of its text was written.
 pub fn session(
+    rt: &HostRuntime,
     bytes: &[u8],
     end: usize,
     tables: &mut [u8; 14912],
@@ -436,7 +440,7 @@ pub fn session(
     let mut run = start;
     let mut turns = std::num::wrapping_add_usize(end, 1);
     while 0 < turns {
-        run = step(bytes, end, tables, area, routes, text, run);
+        run = step(rt, bytes, end, tables, area, routes, text, run);
         let session = run.session;
         if session.stopped {
             return run.written;

@@ -25,13 +25,18 @@ pub struct Filled {
     pub failed: bool,
 }
 
-// After a call that failed: whether it is to be made again. Where it would have had to wait, others run first.
+// Others run first.
+fn pause() {
+    thread::yield_now();
+}
+
+// After a call that failed: whether it is to be made again.
 fn is_passing(error: Error) -> bool
     ensures { IsTrue result ↔ ((error_kind error ≡ ErrorKind.WouldBlock) ⊎ (error_kind error ≡ ErrorKind.Interrupted)) }
 {
     match error.kind() {
         ErrorKind::WouldBlock => {
-            thread::yield_now();
+            pause();
             true
         }
         ErrorKind::Interrupted => true,

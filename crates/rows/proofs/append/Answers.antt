@@ -1,5 +1,4 @@
 -- Without room nothing is called; with room the promises are those of the inner call.
-use native.Mathlib.Omega.{arith}
 use Rattle.rows.proofs.Laws.{append_refused, append_asks, append_done}
 use mathlib.Core.Bool.{true, false}
 use Rattle.rows.proofs.append.Goals as goal

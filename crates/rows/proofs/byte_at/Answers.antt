@@ -1,6 +1,6 @@
 -- Past the end `get_or` gives its default, 0.
 use lib.ListN.{get_or-eq_default}
-use mathlib.Core.Path.{refl, sym}
+use mathlib.Core.Path.{sym}
 use native.Mathlib.Omega.{arith}
 use Rattle.rows.proofs.byte_at.Goals as goal
 

@@ -1,5 +1,4 @@
 -- Inside, the store; past the end nothing is stored.
-use native.Mathlib.Omega.{arith}
 use borrow.Author.Tests.{leb-true, leb-false}
 use Rattle.rows.proofs.Laws.{written_in, written_past}
 use mathlib.Core.Path.{sym, ◌∙◌}

@@ -1,10 +1,9 @@
-use lib.Seq.{take_all, sets}
+use lib.Seq.{take_all}
 use Rattle.rows.proofs.Laws.{copy_more}
 use borrow.Author.Rules.{rules}
-use Prim.Native.Nat.{◌-◌, ◌≤◌}
-use mathlib.Core.Path.{◌≡◌, refl, ◌∙◌}
+use mathlib.Core.Path.{refl, ◌∙◌}
 use native.Mathlib.Omega.{arith}
-use lib.ListN.{length, take, length-set}
+use lib.ListN.{length-set}
 use Rattle.rows.proofs.copy_in_place.Goals as goal
 
 pub loop-i-init : goal.loop-i-init

@@ -1,11 +1,8 @@
 -- Invariant: the first i bytes of src are stored.
-use lib.Seq.{take_all, sets}
-use Rattle.rows.proofs.Laws.{copy_more}
-use borrow.Author.Rules.{rules}
+use lib.Seq.{sets}
 use Prim.Native.Nat.{◌-◌, ◌≤◌}
-use mathlib.Core.Path.{◌≡◌, refl, ◌∙◌}
-use native.Mathlib.Omega.{arith}
-use lib.ListN.{length, take, length-set}
+use mathlib.Core.Path.{◌≡◌}
+use lib.ListN.{length, take}
 use Rattle.rows.proofs.copy_in_place.Given as goal
 
 abbrev pub invariant-loop-i : goal.invariant-loop-i

@@ -1,10 +1,10 @@
 use native.Mathlib.Nat.{div-zero, mul-div-le}
-use Rattle.rows.specs.Rows.{rows, whole_rows, later, find_row}
+use Rattle.rows.specs.Rows.{rows, whole_rows, find_row}
 use Rattle.rows.proofs.Laws.{rows_left, later_none, find_here, find_next, find_end}
-use Prim.Native.Nat.{◌+◌, ◌-◌, ◌*◌, ◌≤◌, ◌<◌}
+use Prim.Native.Nat.{◌+◌, ◌-◌}
 use mathlib.Core.Path.{◌≡◌, sym, ◌∙◌}
 use native.Mathlib.Omega.{arith}
-use lib.ListN.{length, drop}
+use lib.ListN.{length}
 use Rattle.rows.proofs.find_row.Goals as goal
 
 pub returns-then-w-eq0 : goal.returns-then-w-eq0

@@ -1,10 +1,7 @@
 -- Invariant: the first hit among the rows left, counted from i on, is the first hit of all.
-use native.Mathlib.Nat.{div-zero, mul-div-le}
 use Rattle.rows.specs.Rows.{rows, whole_rows, later, find_row}
-use Rattle.rows.proofs.Laws.{rows_left, later_none, find_here, find_next, find_end}
-use Prim.Native.Nat.{◌+◌, ◌-◌, ◌*◌, ◌≤◌, ◌<◌}
-use mathlib.Core.Path.{◌≡◌, sym, ◌∙◌}
-use native.Mathlib.Omega.{arith}
+use Prim.Native.Nat.{◌+◌, ◌*◌, ◌≤◌, ◌<◌}
+use mathlib.Core.Path.{◌≡◌}
 use lib.ListN.{length, drop}
 use Rattle.rows.proofs.find_row.Given as goal
 

@@ -1,5 +1,4 @@
 -- The three sums are asked in the order of the definition.
-use native.Mathlib.Omega.{arith}
 use Rattle.rows.proofs.Laws.{told_yes, told_no}
 use Rattle.rows.specs.Rows.{fits}
 use Rattle.rows.proofs.has_room.Goals as goal

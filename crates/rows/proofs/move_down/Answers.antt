@@ -1,5 +1,4 @@
 -- Upwards, or past the end, nothing is stored.
-use native.Mathlib.Omega.{arith}
 use borrow.Author.Tests.{leb-true, leb-false}
 use Rattle.rows.proofs.Laws.{moved_in, moved_up, moved_past}
 use mathlib.Core.Path.{sym, ◌∙◌}

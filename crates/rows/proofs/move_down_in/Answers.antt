@@ -1,11 +1,8 @@
-use lib.Seq.{sets}
-use Rattle.rows.specs.Rows.{part}
 use Rattle.rows.proofs.Laws.{move_more}
 use borrow.Author.Rules.{rules}
-use Prim.Native.Nat.{◌-◌, ◌≤◌}
 use mathlib.Core.Path.{◌≡◌, refl}
 use native.Mathlib.Omega.{arith}
-use lib.ListN.{length, length-set}
+use lib.ListN.{length-set}
 use Rattle.rows.proofs.move_down_in.Goals as goal
 
 pub loop-i-init : goal.loop-i-init

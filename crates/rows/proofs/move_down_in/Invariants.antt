@@ -1,12 +1,9 @@
 -- Invariant: the first i bytes are moved. What is read next lies behind all that was stored, so it is as at entry.
 use lib.Seq.{sets}
 use Rattle.rows.specs.Rows.{part}
-use Rattle.rows.proofs.Laws.{move_more}
-use borrow.Author.Rules.{rules}
 use Prim.Native.Nat.{◌-◌, ◌≤◌}
-use mathlib.Core.Path.{◌≡◌, refl}
-use native.Mathlib.Omega.{arith}
-use lib.ListN.{length, length-set}
+use mathlib.Core.Path.{◌≡◌}
+use lib.ListN.{length}
 use Rattle.rows.proofs.move_down_in.Given as goal
 
 abbrev pub invariant-loop-i : goal.invariant-loop-i

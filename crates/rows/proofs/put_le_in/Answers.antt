@@ -1,11 +1,7 @@
-use lib.Seq.{sets}
-use Rattle.rows.specs.Rows.{le}
 use Rattle.rows.proofs.Laws.{le_more, le_none}
-use borrow.Author.Rules.{rules}
-use Prim.Native.Nat.{◌+◌, ◌≤◌}
-use mathlib.Core.Path.{◌≡◌, sym, ◌∙◌}
+use mathlib.Core.Path.{sym, ◌∙◌}
 use native.Mathlib.Omega.{arith}
-use lib.ListN.{length, length-set}
+use lib.ListN.{length-set}
 use Rattle.rows.proofs.put_le_in.Goals as goal
 
 pub loop-left-preserved : goal.loop-left-preserved

@@ -1,12 +1,9 @@
 -- Invariant: storing what is left of the number from here on gives what the call is to give.
 use lib.Seq.{sets}
 use Rattle.rows.specs.Rows.{le}
-use Rattle.rows.proofs.Laws.{le_more, le_none}
-use borrow.Author.Rules.{rules}
 use Prim.Native.Nat.{◌+◌, ◌≤◌}
-use mathlib.Core.Path.{◌≡◌, sym, ◌∙◌}
-use native.Mathlib.Omega.{arith}
-use lib.ListN.{length, length-set}
+use mathlib.Core.Path.{◌≡◌}
+use lib.ListN.{length}
 use Rattle.rows.proofs.put_le_in.Given as goal
 
 abbrev pub invariant-loop-left : goal.invariant-loop-left

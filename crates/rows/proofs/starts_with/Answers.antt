@@ -1,9 +1,6 @@
 use Rattle.rows.proofs.Laws.{start_short, start_step, start_end}
-use lib.ListN.{length, take, drop}
-use Rattle.rows.specs.Rows.{same_bytes, starts_with}
 use borrow.Author.Rules.{rules}
-use Prim.Native.Nat.{◌-◌, ◌≤◌}
-use mathlib.Core.Path.{◌≡◌, refl, sym, ◌∙◌}
+use mathlib.Core.Path.{refl, sym, ◌∙◌}
 use native.Mathlib.Omega.{arith}
 use borrow.Author.Tests.{eq-eqb, ne_eqb}
 use Rattle.rows.proofs.starts_with.Goals as goal

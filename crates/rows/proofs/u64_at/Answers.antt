@@ -1,5 +1,4 @@
 -- Inside, the number read; past the end 0.
-use native.Mathlib.Omega.{arith}
 use Rattle.rows.proofs.Laws.{told_yes, told_no, num_in, num_past}
 use borrow.Author.Tests.{leb-true, leb-false}
 use mathlib.Core.Path.{sym, ◌∙◌}

@@ -1,0 +1,8 @@
+use Rattle.std.proofs.Common.{◌-◌, rules}
+use Rattle.extprobe.proofs.replay.Given as goal
+
+abbrev pub invariant-loop-k : goal.invariant-loop-k
+invariant-loop-k l = Unit
+
+abbrev pub decreases-loop-k : goal.decreases-loop-k
+decreases-loop-k l = 18446744073709551615 - l.k
