@@ -17,7 +17,7 @@ use Rattle.rows.proofs.Laws.{pick_yes, pick_no, never, no_later}
 use Rattle.shard_ident.specs.Shard.{signed_byte, equalℤ}
 use Rattle.shard_ident.proofs.Signed.{equal_self, equal_differ, same_signed}
 use Rattle.router.proofs.Laws.{question_3_of_one_row_more, the_first_rows_of_a_table_that_passes_question_3_pass_it}
-use Rattle.router.specs.Router.{max_routes, address_of, route_partition_of, listed, none_twice, partitions_exist, sound_routes, routes_number, first_partition, unless_refused, get_partition, partition_of as rowsPartition}
+use Rattle.router.specs.Router.{max_routes, address_of, route_partition_of, listed, none_twice, partitions_exist, sound_routes, routes_number, first_partition, unless_refused, get_partition, partition_of as rows_partition}
 use Rattle.by_reference.specs.Search.{same_route, first_partition_in, listed_in, takes_one, takes_all, records_number, get_partition_in, nothing_walked, takes_route, with_route, refused_walk, walked_on, walked_over, walk_answer, route_of, routes_of, byte_of, route_row, rows_of}
 use Rattle.by_reference.specs.declared.Route.{Route}
 use Rattle.by_reference.specs.declared.Walk.{Walk}
@@ -193,7 +193,7 @@ rows_agree (suc n) (x ∷ bytes) byte account small hb long =
 -- records answers, unless question 3 refuses the table.
 pub the_records_router_is_the_rows_router : (bytes : List ℕ) (byte : ℕ) (account : List ℕ) → ((i : ℕ) → get_or bytes i 0 < 256) → byte < 256
     → get_partition bytes (byte ∷ account) ≡ unless_refused (routes_number bytes) (first_partition_in (routes_of bytes) (signed_byte byte) account)
-unfolding get_partition rowsPartition
+unfolding get_partition rows_partition
 the_records_router_is_the_rows_router bytes byte account small hb = ap (unless_refused (routes_number bytes)) (rows_agree (length bytes / 34) bytes byte account small hb (omega arith))
 
 -- ---- records, written down as rows
@@ -295,7 +295,7 @@ question_3_of_the_records_is_that_of_their_rows l are =
 
 -- The same from the records on: the router on their rows answers what the search in them answers.
 pub the_rows_router_is_the_records_router : (l : List Route) (w : ℤ) (account : List ℕ) → AreRoutes l → SFits w8 w → get_partition (rows_of l) (byte_of w ∷ account) ≡ get_partition_in l w account
-unfolding get_partition get_partition_in rowsPartition
+unfolding get_partition get_partition_in rows_partition
 the_rows_router_is_the_records_router l w account are fw =
     ap (λ (n : ℕ). unless_refused (routes_number (rows_of l)) (first_partition (byte_of w ∷ account) (rows 34 n (rows_of l)))) {x = length (rows_of l) / 34} {y = length l} (omega (arith, rows_length l are))
     ∙ ap (λ (k : List (List ℕ)). unless_refused (routes_number (rows_of l)) (first_partition (byte_of w ∷ account) k)) (rows_are l are)

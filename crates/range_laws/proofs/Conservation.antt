@@ -1,6 +1,6 @@
 -- The counts of a call: every message of ours that it passed is counted once, as read or as expired, in its own
 -- partition.
-use Prim.Native.Nat.{ℕ, ◌+◌, ◌-◌}
+use Prim.Native.Nat.{ℕ, ◌+◌}
 use mathlib.Core.Path.{◌≡◌, ap, ◌∙◌}
 use mathlib.Core.List.{List}
 use lib.ListN.{length, get_or, take, drop, replicate}
@@ -14,7 +14,7 @@ use Rattle.range_rules.specs.declared.RangeRead.{RangeRead}
 use Rattle.range_rules.specs.declared.ProcessedTo.{ProcessedTo}
 use Rattle.range_rules.specs.declared.ExternalsRangeReaderState.{ExternalsRangeReaderState}
 use Rattle.range_rules.specs.declared.ReadNextExternalsMode.{ReadNextExternalsMode}
-use Rattle.range_rules.specs.Rules.{Outcome, expired, walked, context_of}
+use Rattle.range_rules.specs.Rules.{Outcome, context_of}
 use Rattle.range_reader.specs.Calls.{range_read, ReadResult, read_call}
 use Rattle.range_reader.proofs.Numbers.{passed}
 use Rattle.range_reader.proofs.Bounds.{a_read_with_number_0_does_the_six_steps}

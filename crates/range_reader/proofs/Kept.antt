@@ -22,7 +22,7 @@ use Rattle.range_rules.specs.declared.RangeRead.{RangeRead}
 use Rattle.range_rules.specs.declared.ExternalsRangeReaderState.{ExternalsRangeReaderState}
 use Rattle.range_rules.specs.declared.ProcessedTo.{ProcessedTo}
 use Rattle.range_rules.specs.declared.ReadNextExternalsMode.{ReadNextExternalsMode}
-use Rattle.range_rules.specs.Rules.{Outcome, silent, expired, next_read, anchors_read, context_of, entry_of}
+use Rattle.range_rules.specs.Rules.{Outcome, silent, next_read, anchors_read, context_of, entry_of}
 use Rattle.range_rules.specs.Bounds.{AtMost}
 use Rattle.range_reader.specs.Calls.{asked_number, refused_answer, done_result, range_read, read_call}
 use Rattle.range_rules.proofs.Counts.{within_up, zeros}

@@ -21,7 +21,7 @@ use Rattle.reader_rules.specs.declared.RangesRead.{RangesRead}
 use Rattle.reader_rules.specs.State.{max_ranges}
 use Rattle.reader_rules.specs.Rules.{Told, free_value}
 use Rattle.reader_rules.proofs.Reported.{Reported, Reports, the_free_places_told_are_those_of_the_last_range_read}
-use Rattle.externals_reader.specs.Calls.{asked_of_read, told, window_read, all_ranges_read, ReadAllResult, unchanged, all_result, read_all_call}
+use Rattle.externals_reader.specs.Calls.{asked_of_read, window_read, all_ranges_read, ReadAllResult, unchanged, all_result, read_all_call}
 use Rattle.reader_laws.proofs.AllKept.{window_done, answered, begun, fixed}
 use Rattle.reader_laws.proofs.Laws.{a_refused_read_of_all_changes_nothing, once_all_ranges_are_read_only_the_questions_are_asked}
 

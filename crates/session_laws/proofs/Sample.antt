@@ -14,7 +14,7 @@ use Rattle.reader_rules.specs.State.{reader_number, settled_number}
 use Rattle.externals_reader.specs.Calls.{all_ranges_read, asked_of_read, new_call, read_all_call, window_read}
 use Rattle.reader_rules.specs.Each.{each}
 use Rattle.reader_rules.specs.Rules.{after_turn, with_next_range, before_skip_offsets, is_skipped, mode_for, next_range, partitions_entered, ranges_read, settled, sums, turn, turns, wants_next, with_default}
-use Rattle.reader_rules.specs.State.{settings_number, sound_ranges_from as externals-reader-soundFrom, state_number}
+use Rattle.reader_rules.specs.State.{settings_number, sound_ranges_from as reader_sound_from, state_number}
 use Rattle.lines.specs.Lines.{bad_line, end_line, free_line, entry_line, entry_lines, range_line, range_lines}
 use Rattle.text.specs.Shown.{decimal, line, places, spaced}
 use Rattle.messages_buffer.specs.Fullness.{all_limited, buffers, every, first_no, free_in, limited_number, limits_number, partitions_number, range_free, smallest}
@@ -22,7 +22,7 @@ use Rattle.range_reader.specs.Calls.{asked_number, range_read}
 use Rattle.range_rules.specs.Rules.{advanced, anchor_read, anchors_read, buffer_one, buffered, entry_bytes, expired, finished, judge, looked, message_read, messages_read, our_read, read_one, stopped}
 use Rattle.records.specs.Records.{anchor_in, as_stated, author_of, byte_within, in_place, limits_of, params_of, record_number, shard_of}
 use Rattle.router.specs.Router.{first_partition, none_twice, partition_of, partitions_exist, routes_number, sound_routes}
-use Rattle.rows.specs.Rows.{appended as rows-appended, le, num_at, rows, word, written}
+use Rattle.rows.specs.Rows.{appended as rows_appended, le, num_at, rows, word, written}
 use Rattle.session_rules.proofs.Texts.{session_text}
 use Rattle.session_rules.specs.Steps.{Lent, no_reader, plain_outcome, reaches_reader, read_said, read_text, reader_entries, reader_outcome, reader_reader, reader_said, settings_done, shard_done, step_of, taken_outcome}
 use Rattle.session_rules.specs.Said.{anchor_taken, anchor_number, anchor_said, area_after, cache_said, called, do_name, end_said, is_read, is_taken, after_or_bad, malformed_said, new_session, record_counted, plain_area, plain_routes, plain_said, plain_tables, bad_said, tables_after}
@@ -87,10 +87,10 @@ unfolding session_text add_call add_number answer close_call open_call pops_call
     sound_row total anchor_row anchors info_row infos view with_messages added_area added_cache added_tables in_cache in_history popped_cache popped_times
     key_above key_equal all_ranges_read asked_of_read new_call read_all_call reader_number settled_number window_read each after_turn with_next_range before_skip_offsets
     is_skipped mode_for next_range partitions_entered ranges_read settled sums turn turns wants_next with_default settings_number
-    externals-reader-soundFrom state_number decimal end_line free_line entry_line entry_lines line places range_line range_lines spaced all_limited buffers every
+    reader_sound_from state_number decimal end_line free_line entry_line entry_lines line places range_line range_lines spaced all_limited buffers every
     first_no free_in limited_number limits_number partitions_number range_free smallest asked_number range_read advanced anchor_read anchors_read buffer_one buffered
     entry_bytes expired finished judge looked message_read messages_read our_read read_one stopped anchor_in as_stated author_of byte_within in_place
-    limits_of params_of record_number shard_of first_partition none_twice partition_of partitions_exist routes_number sound_routes rows-appended le num_at
+    limits_of params_of record_number shard_of first_partition none_twice partition_of partitions_exist routes_number sound_routes rows_appended le num_at
     rows word written no_reader plain_outcome reaches_reader read_said read_text reader_entries reader_outcome reader_reader reader_said settings_done
     shard_done step_of taken_outcome anchor_taken anchor_number anchor_said area_after cache_said called do_name end_said is_read is_taken after_or_bad new_session
     record_counted plain_area plain_routes plain_said plain_tables tables_after big_endian is_ours is_shard lowest_set same_above_tag same_bits same_workchain

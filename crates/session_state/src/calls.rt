@@ -2,7 +2,7 @@
 ghost use Rattle.std.specs.Prelude.{◌≡◌, [], ◌∷◌, ◌+◌, ◌*◌, length};
 ghost use Rattle.text.specs.Shown.{show, line};
 ghost use Rattle.session_rules.specs.Said.{anchor_taken, tables_after, area_after, pop_done, do_name, long_number};
-ghost use Rattle.session_rules.specs.Said.{called as spec·called, is_read as spec·is_read};
+ghost use Rattle.session_rules.specs.Said.{called as spec_called, is_read as spec_is_read};
 
 use anchors_cache::{AnchorsCacheTransaction, Done};
 
@@ -20,7 +20,7 @@ const CLOSE: [u8; 5] = *b"close";
 
 // 3 read `Continue`, 4 read `Refill`.
 pub fn is_read(d: u8) -> bool
-    ensures { result ≡ spec·is_read d }
+    ensures { result ≡ spec_is_read d }
 {
     if d == 3 {
         return true;
@@ -55,7 +55,7 @@ fn pop(tables: &[u8], area: &[u8], t: AnchorsCacheTransaction) -> Done
 
 // 1 open, 2 pop, 5 commit, 6 rollback, 7 close.
 pub fn called(tables: &[u8], area: &[u8], t: AnchorsCacheTransaction, d: u8) -> Done
-    ensures { result ≡ spec·called (length area.now) tables.now t d }
+    ensures { result ≡ spec_called (length area.now) tables.now t d }
 {
     match d {
         1 => anchors_cache::open(tables, area, t),

@@ -1,6 +1,5 @@
 use Rattle.anchors_cache.specs.Calls.{add_info_call, answer}
 use Rattle.anchors_cache.proofs.Asked.{on_not, info_refusal, info_yes, refusal_parts}
-use Prim.Native.Nat.{◌-◌}
 use mathlib.Core.Path.{◌≡◌, sym, ◌∙◌}
 use lib.ListN.{length}
 use borrow.Author.Rules.{rules}

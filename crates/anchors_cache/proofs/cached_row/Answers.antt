@@ -2,10 +2,8 @@ use borrow.Author.Tests.{ltb-true, leb-true}
 use lib.Dec.{ltb, leb}
 use Rattle.rows.proofs.Laws.{and_true}
 use Rattle.anchors_cache.specs.Calls.{row_at}
-use Prim.Native.Nat.{◌-◌}
 use mathlib.Core.Path.{sym, ◌∙◌}
 use lib.ListN.{length}
-use borrow.Author.Rules.{rules}
 use Rattle.cache_rules.specs.Rules.{max_anchors}
 use Rattle.anchors_cache.specs.Tables.{tables_bytes}
 use Rattle.anchors_cache.proofs.cached_row.Goals as goal

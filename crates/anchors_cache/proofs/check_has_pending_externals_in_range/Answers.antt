@@ -3,10 +3,8 @@ use Rattle.cache_rules.specs.Rules.{pending_up_to}
 use Rattle.anchors_cache.specs.Calls.{pending_in_range_call, flag_answer}
 use Rattle.anchors_cache.proofs.Laws.{anchors_none, anchors_cons}
 use Rattle.anchors_cache.proofs.Asked.{on_not, seen_parts, front_decides}
-use Prim.Native.Nat.{◌-◌}
 use mathlib.Core.Path.{sym, ap, ◌∙◌}
 use native.Mathlib.Omega.{arith}
-use borrow.Author.Rules.{rules}
 use Rattle.anchors_cache.proofs.check_has_pending_externals_in_range.Goals as goal
 
 pub returns-then-r-ne0 : goal.returns-then-r-ne0

@@ -1,9 +1,7 @@
 use Rattle.anchors_cache.specs.declared.AnchorsCacheTransaction.{AnchorsCacheTransaction}
 use Rattle.anchors_cache.specs.Calls.{clear_call, answer}
 use Rattle.anchors_cache.proofs.Asked.{on_not}
-use Prim.Native.Nat.{◌-◌}
 use mathlib.Core.Path.{sym, ap, ◌∙◌}
-use borrow.Author.Rules.{rules}
 use Rattle.anchors_cache.proofs.clear.Goals as goal
 
 pub returns-then-r-ne0 : goal.returns-then-r-ne0

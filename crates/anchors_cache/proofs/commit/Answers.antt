@@ -1,8 +1,6 @@
 use Rattle.anchors_cache.specs.Calls.{commit_call, answer}
 use Rattle.anchors_cache.proofs.Asked.{on_not}
-use Prim.Native.Nat.{◌-◌}
 use mathlib.Core.Path.{sym, ◌∙◌}
-use borrow.Author.Rules.{rules}
 use Rattle.anchors_cache.proofs.commit.Goals as goal
 
 pub returns-then-r-ne0 : goal.returns-then-r-ne0

@@ -1,9 +1,7 @@
 use Rattle.anchors_cache.specs.Calls.{get_call, get_answer}
 use Rattle.anchors_cache.proofs.Asked.{on_not, seen_parts}
-use Prim.Native.Nat.{◌-◌}
 use mathlib.Core.Path.{sym, ◌∙◌}
 use native.Mathlib.Omega.{arith}
-use borrow.Author.Rules.{rules}
 use Rattle.anchors_cache.proofs.get.Goals as goal
 
 pub returns-then-r-ne0 : goal.returns-then-r-ne0

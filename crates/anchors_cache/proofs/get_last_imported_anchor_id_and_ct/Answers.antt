@@ -1,7 +1,5 @@
 use Rattle.anchors_cache.specs.Calls.{last_info_call, last_id_call}
 use Rattle.anchors_cache.proofs.Answers.{id_none, id_some}
-use Prim.Native.Nat.{◌-◌}
-use borrow.Author.Rules.{rules}
 use Rattle.anchors_cache.proofs.get_last_imported_anchor_id_and_ct.Goals as goal
 
 pub returns-in_default : goal.returns-in_default

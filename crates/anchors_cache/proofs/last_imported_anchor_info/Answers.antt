@@ -1,8 +1,6 @@
 use Rattle.anchors_cache.specs.Calls.{last_info_call, info_answer}
 use Rattle.anchors_cache.proofs.Asked.{on_not, seen_parts}
-use Prim.Native.Nat.{◌-◌}
 use mathlib.Core.Path.{sym, ◌∙◌}
-use borrow.Author.Rules.{rules}
 use Rattle.anchors_cache.proofs.last_imported_anchor_info.Goals as goal
 
 pub returns-then-r-ne0 : goal.returns-then-r-ne0

@@ -3,10 +3,8 @@ use Rattle.anchors_cache.specs.Calls.{info_at_ct_call, info_answer}
 use Rattle.cache_rules.proofs.Lists.{at_ct}
 use Rattle.anchors_cache.proofs.Laws.{history_kept_le, kept_history}
 use Rattle.anchors_cache.proofs.Asked.{on_not, seen_parts}
-use Prim.Native.Nat.{◌-◌}
 use mathlib.Core.Path.{sym, ◌∙◌}
 use native.Mathlib.Omega.{arith}
-use borrow.Author.Rules.{rules}
 use Rattle.anchors_cache.proofs.last_imported_anchor_info_at_ct.Goals as goal
 
 pub returns-then-r-ne0 : goal.returns-then-r-ne0

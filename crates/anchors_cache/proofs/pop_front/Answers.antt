@@ -3,11 +3,9 @@ use Rattle.anchors_cache.specs.Tables.{anchors_of}
 use Rattle.anchors_cache.specs.Calls.{pop_call, pop_answer}
 use Rattle.anchors_cache.proofs.Asked.{on_not, refusal_parts}
 use Rattle.anchors_cache.proofs.Answers.{front_shown}
-use Prim.Native.Nat.{◌-◌}
 use mathlib.Core.Path.{sym, ap, ◌∙◌}
 use native.Mathlib.Omega.{arith}
 use lib.ListN.{length}
-use borrow.Author.Rules.{rules}
 use Rattle.anchors_cache.proofs.pop_front.Goals as goal
 
 pub returns-then-r-ne0 : goal.returns-then-r-ne0

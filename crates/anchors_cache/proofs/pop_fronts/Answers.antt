@@ -1,10 +1,8 @@
 use Rattle.anchors_cache.specs.Calls.{pops_call, answer}
 use Rattle.anchors_cache.proofs.Asked.{on_not, refusal_parts}
-use Prim.Native.Nat.{◌-◌}
 use mathlib.Core.Path.{sym, ◌∙◌}
 use native.Mathlib.Omega.{arith}
 use lib.ListN.{length}
-use borrow.Author.Rules.{rules}
 use Rattle.anchors_cache.proofs.pop_fronts.Goals as goal
 
 pub returns-then-r-ne0 : goal.returns-then-r-ne0

@@ -4,11 +4,9 @@ use Rattle.anchors_cache.specs.Windows.{trimmed_cache}
 use Rattle.anchors_cache.specs.Calls.{trim_call, trim_answer, shown_info}
 use Rattle.anchors_cache.proofs.Laws.{history_kept_le}
 use Rattle.anchors_cache.proofs.Asked.{on_not, refusal_parts}
-use Prim.Native.Nat.{◌-◌}
 use mathlib.Core.Path.{sym, ap, ◌∙◌}
 use native.Mathlib.Omega.{arith}
 use lib.ListN.{length}
-use borrow.Author.Rules.{rules}
 use Rattle.anchors_cache.proofs.remove_last_imported_above.Goals as goal
 
 pub returns-then-r-ne0 : goal.returns-then-r-ne0

@@ -1,9 +1,7 @@
 -- Each return is one number that differs; the last one is the pending flag.
 use Rattle.anchors_cache.specs.Calls.{same_window}
-use Prim.Native.Nat.{◌-◌}
 use mathlib.Core.Path.{sym, ◌∙◌}
 use borrow.Author.Tests.{eq-eqb, ne_eqb}
-use borrow.Author.Rules.{rules}
 use Rattle.anchors_cache.proofs.same_window.Goals as goal
 
 pub returns-then-a-b : goal.returns-then-a-b

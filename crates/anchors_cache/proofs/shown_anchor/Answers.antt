@@ -4,7 +4,6 @@ use Rattle.anchors_cache.proofs.Laws.{anchors_none, anchors_cons, anchors_drop, 
 use Prim.Native.Nat.{◌+◌, ◌-◌, ◌*◌}
 use mathlib.Core.Path.{sym, ◌∙◌}
 use native.Mathlib.Omega.{arith}
-use borrow.Author.Rules.{rules}
 use Rattle.cache_rules.specs.Rules.{author_bytes}
 use Rattle.anchors_cache.specs.Tables.{history_bytes}
 use Rattle.anchors_cache.proofs.shown_anchor.Goals as goal

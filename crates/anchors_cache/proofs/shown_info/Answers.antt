@@ -5,7 +5,6 @@ use Rattle.anchors_cache.proofs.Laws.{infos_none, last_info}
 use Prim.Native.Nat.{◌+◌, ◌-◌, ◌*◌}
 use mathlib.Core.Path.{sym, ◌∙◌}
 use native.Mathlib.Omega.{arith}
-use borrow.Author.Rules.{rules}
 use Rattle.anchors_cache.proofs.shown_info.Goals as goal
 
 pub returns-then-len-eq0 : goal.returns-then-len-eq0

@@ -1,4 +1,4 @@
-use Rattle.std.proofs.Common.{◌-◌, rules}
+use Rattle.std.proofs.Common.{◌-◌}
 use Rattle.bad_readers.proofs.print_case.Given as goal
 
 abbrev pub invariant-loop-which : goal.invariant-loop-which

@@ -1,6 +1,5 @@
 -- Each return is the first "no" after the ones before it.
 use mathlib.Core.Path.{sym, ◌∙◌}
-use borrow.Author.Rules.{rules}
 use Rattle.externals_reader.proofs.Sound.{limits_refused, open_limit_refused, settings_fit}
 use Rattle.externals_reader.proofs.check_settings.Goals as goal
 

@@ -1,7 +1,5 @@
 use Rattle.externals_reader.proofs.Sound.{by_ranges}
-use Prim.Native.Nat.{◌-◌}
 use mathlib.Core.Path.{◌∙◌}
-use borrow.Author.Rules.{rules}
 use Rattle.externals_reader.proofs.check_state.Goals as goal
 
 pub returns : goal.returns

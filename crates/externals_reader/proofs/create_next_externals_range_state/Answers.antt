@@ -1,8 +1,8 @@
-use lib.ListN.{length-map, length, get_or}
+use lib.ListN.{length, get_or}
 use Rattle.externals_reader.proofs.Sound.{sound_parts}
 use Rattle.externals_reader.specs.Calls.{next_range_call}
 use Rattle.reader_rules.specs.State.{no_range, max_ranges}
-use Prim.Native.Nat.{ℕ, ◌-◌, ◌<◌}
+use Prim.Native.Nat.{ℕ, ◌<◌}
 use mathlib.Core.Path.{◌≡◌, sym, ap, ◌∙◌}
 use native.Mathlib.Omega.{arith}
 use borrow.Author.Tests.{ne_eqb}

@@ -1,8 +1,6 @@
 use Rattle.externals_reader.specs.Calls.{drop_last_call}
 use Rattle.externals_reader.proofs.Laws.{changed_no, changed_yes}
-use Prim.Native.Nat.{◌-◌}
 use mathlib.Core.Path.{◌∙◌}
-use borrow.Author.Rules.{rules}
 use Rattle.externals_reader.proofs.drop_last_read_to_anchor_chain_time.Goals as goal
 
 pub returns-then-number-ne0 : goal.returns-then-number-ne0

@@ -1,4 +1,3 @@
-use Prim.Native.Nat.{◌-◌}
 use borrow.Author.Rules.{rules}
 use Rattle.externals_reader.proofs.fixed_at_entry.Goals as goal
 

@@ -1,8 +1,6 @@
 use Rattle.externals_reader.specs.Calls.{partition_ids_call}
-use Prim.Native.Nat.{◌-◌}
 use mathlib.Core.Path.{sym}
 use borrow.Author.Tests.{ne_eqb}
-use borrow.Author.Rules.{rules}
 use Rattle.externals_reader.proofs.get_partition_ids.Goals as goal
 
 pub returns-then-number-ne0 : goal.returns-then-number-ne0

@@ -1,8 +1,6 @@
 use Rattle.externals_reader.proofs.Laws.{changed_no, changed_yes, reader_few}
 use Rattle.externals_reader.specs.Calls.{new_call}
-use Prim.Native.Nat.{◌-◌}
 use mathlib.Core.Path.{sym, ◌∙◌}
-use borrow.Author.Rules.{rules}
 use Rattle.externals_reader.proofs.new.Goals as goal
 
 pub returns-then-number-ne0 : goal.returns-then-number-ne0

@@ -1,7 +1,6 @@
 -- The larger of the limit and 2.
 use mathlib.Core.Path.{sym}
 use borrow.Author.Tests.{lt-ltb, le-ltb}
-use borrow.Author.Rules.{rules}
 use Rattle.rows.proofs.Laws.{pick_yes, pick_no}
 use Rattle.externals_reader.proofs.open_ranges_limit.Goals as goal
 

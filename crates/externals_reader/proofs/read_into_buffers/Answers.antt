@@ -2,10 +2,8 @@ use Rattle.externals_reader.proofs.CallLaws.{call_refused, call_idle, call_histo
 use Rattle.externals_reader.proofs.TurnLaws.{wrote_length}
 use Rattle.reader_rules.specs.declared.Imported.{Imported}
 use Rattle.reader_rules.specs.Rules.{fixed_of}
-use Prim.Native.Nat.{◌-◌}
 use mathlib.Core.Path.{ap, ◌∙◌}
 use lib.ListN.{length}
-use borrow.Author.Rules.{rules}
 use Rattle.externals_reader.proofs.read_into_buffers.Goals as goal
 
 pub returns-then-asked-ne0 : goal.returns-then-asked-ne0

@@ -1,5 +1,3 @@
-use Prim.Native.Nat.{◌-◌}
-use borrow.Author.Rules.{rules}
 use Rattle.externals_reader.proofs.reader_after.Goals as goal
 
 pub returns : goal.returns

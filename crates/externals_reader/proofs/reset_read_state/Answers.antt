@@ -1,7 +1,5 @@
 use Rattle.externals_reader.specs.Calls.{reset_call}
 use Rattle.externals_reader.proofs.Laws.{changed_no, changed_yes}
-use Prim.Native.Nat.{◌-◌}
-use borrow.Author.Rules.{rules}
 use Rattle.externals_reader.proofs.reset_read_state.Goals as goal
 
 pub returns-then-number-ne0 : goal.returns-then-number-ne0

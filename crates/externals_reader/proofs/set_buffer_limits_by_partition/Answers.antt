@@ -2,9 +2,7 @@ use Rattle.externals_reader.proofs.Laws.{changed_no, changed_yes}
 use Rattle.messages_buffer.proofs.Laws.{first_no_lem, first_yes, first_alone}
 use Rattle.reader_rules.specs.State.{settled_number}
 use Rattle.externals_reader.specs.Calls.{set_limits_call}
-use Prim.Native.Nat.{◌-◌}
 use mathlib.Core.Path.{refl, sym, ◌∙◌}
-use borrow.Author.Rules.{rules}
 use Rattle.externals_reader.proofs.set_buffer_limits_by_partition.Goals as goal
 
 pub returns-then-of_settings-ne0 : goal.returns-then-of_settings-ne0

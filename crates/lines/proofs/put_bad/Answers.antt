@@ -1,4 +1,3 @@
-use borrow.Author.Rules.{rules}
 use Rattle.lines.specs.Lines.{bad_line}
 use Rattle.lines.proofs.put_bad.Goals as goal
 

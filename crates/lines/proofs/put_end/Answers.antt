@@ -1,4 +1,3 @@
-use borrow.Author.Rules.{rules}
 use Rattle.lines.specs.Lines.{end_line}
 use Rattle.lines.proofs.put_end.Goals as goal
 

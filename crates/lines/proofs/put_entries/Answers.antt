@@ -1,13 +1,8 @@
-use Prim.Native.Nat.{◌+◌, ◌*◌, ◌≤◌}
-use mathlib.Core.Path.{◌≡◌, refl, sym, ◌∙◌}
+use mathlib.Core.Path.{refl, sym, ◌∙◌}
 use native.Mathlib.Omega.{arith}
-use lib.ListN.{length, drop}
+use lib.ListN.{drop}
 use borrow.Author.Rules.{rules}
-use Rattle.rows.specs.Rows.{rows, whole_rows}
-use Rattle.text.specs.Shown.{show}
-use Rattle.lines.specs.Lines.{entry_lines}
 use Rattle.lines.proofs.Laws.{entries_turn, entries_end}
-use Rattle.range_rules.specs.Rules.{entry_len}
 use Rattle.lines.proofs.put_entries.Goals as goal
 
 pub loop-left-init : goal.loop-left-init

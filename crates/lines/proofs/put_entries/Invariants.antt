@@ -1,13 +1,10 @@
 -- Invariant: the entries left, shown behind what is shown so far, are all the entries shown from the start.
 use Prim.Native.Nat.{◌+◌, ◌*◌, ◌≤◌}
-use mathlib.Core.Path.{◌≡◌, refl, sym, ◌∙◌}
-use native.Mathlib.Omega.{arith}
+use mathlib.Core.Path.{◌≡◌}
 use lib.ListN.{length, drop}
-use borrow.Author.Rules.{rules}
 use Rattle.rows.specs.Rows.{rows, whole_rows}
 use Rattle.text.specs.Shown.{show}
 use Rattle.lines.specs.Lines.{entry_lines}
-use Rattle.lines.proofs.Laws.{entries_turn, entries_end}
 use Rattle.range_rules.specs.Rules.{entry_len}
 use Rattle.lines.proofs.put_entries.Given as goal
 

@@ -1,4 +1,3 @@
-use borrow.Author.Rules.{rules}
 use Rattle.lines.specs.Lines.{entry_line}
 use Rattle.lines.proofs.put_entry.Goals as goal
 

@@ -1,5 +1,4 @@
 -- One case for a range that was read, one for none.
-use borrow.Author.Rules.{rules}
 use Rattle.lines.proofs.Laws.{free_none, free_some}
 use Rattle.lines.proofs.put_free.Goals as goal
 

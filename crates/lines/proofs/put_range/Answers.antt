@@ -1,4 +1,3 @@
-use borrow.Author.Rules.{rules}
 use Rattle.lines.specs.Lines.{range_line}
 use Rattle.lines.proofs.put_range.Goals as goal
 

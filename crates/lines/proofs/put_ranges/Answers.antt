@@ -1,10 +1,8 @@
-use Prim.Native.Nat.{◌-◌, ◌≤◌}
+use Prim.Native.Nat.{◌≤◌}
 use mathlib.Core.Path.{◌≡◌, refl, sym, ◌∙◌}
 use native.Mathlib.Omega.{arith}
-use lib.ListN.{length-take, length-map, length, take, drop}
+use lib.ListN.{length-take, length, take}
 use borrow.Author.Rules.{rules}
-use Rattle.text.specs.Shown.{show}
-use Rattle.lines.specs.Lines.{range_lines}
 use Rattle.lines.proofs.Laws.{ranges_turn, ranges_end}
 use Rattle.lines.proofs.put_ranges.Goals as goal
 

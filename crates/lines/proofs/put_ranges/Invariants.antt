@@ -1,12 +1,9 @@
 -- Invariant: the ranges left, shown behind what is shown so far, are all the ranges shown from the start.
-use Prim.Native.Nat.{◌-◌, ◌≤◌}
-use mathlib.Core.Path.{◌≡◌, refl, sym, ◌∙◌}
-use native.Mathlib.Omega.{arith}
-use lib.ListN.{length-take, length-map, length, take, drop}
-use borrow.Author.Rules.{rules}
+use Prim.Native.Nat.{◌-◌}
+use mathlib.Core.Path.{◌≡◌}
+use lib.ListN.{length, take, drop}
 use Rattle.text.specs.Shown.{show}
 use Rattle.lines.specs.Lines.{range_lines}
-use Rattle.lines.proofs.Laws.{ranges_turn, ranges_end}
 use Rattle.lines.proofs.put_ranges.Given as goal
 
 abbrev pub invariant-loop-i : goal.invariant-loop-i

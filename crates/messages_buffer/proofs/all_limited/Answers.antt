@@ -1,10 +1,9 @@
-use Prim.Native.Nat.{◌-◌, ◌≤◌}
 use mathlib.Core.Path.{◌≡◌, refl, sym, ◌∙◌}
 use native.Mathlib.Omega.{arith}
-use lib.ListN.{length, drop}
+use lib.ListN.{length}
 use borrow.Author.Rules.{rules}
 use borrow.Author.Tests.{not-true, not-false}
-use Rattle.messages_buffer.specs.Fullness.{every, limited, buffers, all_limited}
+use Rattle.messages_buffer.specs.Fullness.{limited, all_limited}
 use Rattle.messages_buffer.proofs.Laws.{buffers_fail, buffers_next, buffers_end}
 use Rattle.messages_buffer.proofs.all_limited.Goals as goal
 

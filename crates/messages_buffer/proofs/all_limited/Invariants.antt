@@ -1,12 +1,8 @@
 -- `messages_buffer::all_limited` meets its contract: the loop keeps that the rest of the two tables decides.
 use Prim.Native.Nat.{◌-◌, ◌≤◌}
-use mathlib.Core.Path.{◌≡◌, refl, sym, ◌∙◌}
-use native.Mathlib.Omega.{arith}
-use lib.ListN.{length, drop}
-use borrow.Author.Rules.{rules}
-use borrow.Author.Tests.{not-true, not-false}
-use Rattle.messages_buffer.specs.Fullness.{every, limited, buffers, all_limited}
-use Rattle.messages_buffer.proofs.Laws.{buffers_fail, buffers_next, buffers_end}
+use mathlib.Core.Path.{◌≡◌}
+use lib.ListN.{drop}
+use Rattle.messages_buffer.specs.Fullness.{every, limited, buffers}
 use Rattle.messages_buffer.proofs.all_limited.Given as goal
 
 abbrev pub invariant-loop-i : goal.invariant-loop-i

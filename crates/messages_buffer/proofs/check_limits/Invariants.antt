@@ -1,13 +1,8 @@
 -- `messages_buffer::check_limits` meets its contract: the loop keeps that the rest of the table decides.
 use Prim.Native.Nat.{◌-◌, ◌≤◌}
-use mathlib.Core.Path.{◌≡◌, refl, sym, ◌∙◌}
-use native.Mathlib.Omega.{arith}
-use lib.ListN.{length, drop}
-use borrow.Author.Rules.{rules}
-use borrow.Author.Tests.{not-true, not-false}
-use Rattle.rows.proofs.Laws.{pick_yes, pick_no}
-use Rattle.messages_buffer.specs.Fullness.{every, limit_fits, limits_number}
-use Rattle.messages_buffer.proofs.Laws.{every_fail, every_next, every_end}
+use mathlib.Core.Path.{◌≡◌}
+use lib.ListN.{drop}
+use Rattle.messages_buffer.specs.Fullness.{every, limit_fits}
 use Rattle.messages_buffer.proofs.check_limits.Given as goal
 
 abbrev pub invariant-loop-i : goal.invariant-loop-i

@@ -1,11 +1,10 @@
-use Prim.Native.Nat.{◌-◌, ◌≤◌}
 use mathlib.Core.Path.{◌≡◌, refl, sym, ◌∙◌}
 use native.Mathlib.Omega.{arith}
-use lib.ListN.{length, drop}
+use lib.ListN.{length}
 use borrow.Author.Rules.{rules}
 use borrow.Author.Tests.{not-true, not-false}
 use Rattle.rows.proofs.Laws.{pick_yes, pick_no}
-use Rattle.messages_buffer.specs.Fullness.{no_partition, every, count_fits, partitions_number}
+use Rattle.messages_buffer.specs.Fullness.{no_partition, count_fits, partitions_number}
 use Rattle.messages_buffer.proofs.Laws.{every_fail, every_next, every_end}
 use Rattle.messages_buffer.proofs.check_partitions.Goals as goal
 

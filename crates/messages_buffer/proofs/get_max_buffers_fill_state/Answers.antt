@@ -1,7 +1,6 @@
 -- `messages_buffer::get_max_buffers_fill_state` meets its contract: each return is one case of the three questions.
 use mathlib.Core.Path.{sym, ◌∙◌}
 use borrow.Author.Tests.{not-true, not-false}
-use borrow.Author.Rules.{rules}
 use Rattle.messages_buffer.proofs.Laws.{refused_by_limits, refused_by_counts, refused_without_limit, answered}
 use Rattle.messages_buffer.proofs.get_max_buffers_fill_state.Goals as goal
 

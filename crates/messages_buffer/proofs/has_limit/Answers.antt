@@ -1,6 +1,5 @@
 -- `messages_buffer::has_limit` meets its contract: an absent record needs no limit.
 use borrow.Author.Tests.{not-false}
-use borrow.Author.Rules.{rules}
 use Rattle.messages_buffer.proofs.has_limit.Goals as goal
 
 pub returns : goal.returns

@@ -1,9 +1,9 @@
-use Prim.Native.Nat.{ℕ, ◌+◌, ◌-◌, ◌≤◌}
+use Prim.Native.Nat.{ℕ, ◌+◌}
 use mathlib.Core.Path.{◌≡◌, sym, ap, ◌∙◌}
 use native.Mathlib.Omega.{arith}
 use lib.ListN.{length, drop, get_or}
 use borrow.Author.Rules.{rules}
-use Rattle.messages_buffer.specs.Fullness.{buffer_cap, no_partition, least, smallest, buffers, range_free}
+use Rattle.messages_buffer.specs.Fullness.{no_partition, least, smallest, buffers}
 use Rattle.messages_buffer.proofs.Free.{free_start, free_next, free_end, with_free_within}
 use Rattle.messages_buffer.proofs.range_free.Goals as goal
 

@@ -1,7 +1,6 @@
 -- `messages_buffer::with_free` meets its contract: an absent partition is passed over.
 use mathlib.Core.Path.{ap, ◌∙◌}
 use borrow.Author.Tests.{not-true, not-false}
-use borrow.Author.Rules.{rules}
 use Rattle.messages_buffer.specs.Fullness.{least}
 use Rattle.messages_buffer.proofs.with_free.Goals as goal
 

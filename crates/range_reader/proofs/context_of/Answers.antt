@@ -1,4 +1,3 @@
-use borrow.Author.Rules.{rules}
 use Rattle.range_reader.proofs.context_of.Goals as goal
 
 pub returns : goal.returns

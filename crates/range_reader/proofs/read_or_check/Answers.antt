@@ -1,6 +1,5 @@
 -- Refused by a question, refused on the way, or done.
 use Rattle.range_reader.proofs.CallLaws.{call_asked, call_ready, call_refused, call_done}
-use borrow.Author.Rules.{rules}
 use Rattle.range_reader.proofs.read_or_check.Goals as goal
 
 pub returns-then-asked-ne0 : goal.returns-then-asked-ne0

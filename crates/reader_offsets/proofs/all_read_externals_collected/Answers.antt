@@ -1,7 +1,6 @@
 -- Each return is the answer to the first "no", or the rule's.
 use mathlib.Core.Path.{◌≡◌, sym, ◌∙◌}
 use native.Mathlib.Omega.{arith}
-use borrow.Author.Rules.{rules}
 use Rattle.reader_rules.specs.State.{state_number}
 use Rattle.reader_offsets.specs.Calls.{all_collected_call}
 use Rattle.reader_offsets.proofs.Numbers.{flag_refused, flag_done}

@@ -2,7 +2,6 @@
 use mathlib.Core.Path.{◌≡◌, sym, ◌∙◌}
 use native.Mathlib.Omega.{arith}
 use borrow.Author.Tests.{not-true, not-false}
-use borrow.Author.Rules.{rules}
 use Rattle.rows.proofs.Laws.{no_here, yes_here}
 use Rattle.reader_rules.specs.State.{state_number}
 use Rattle.reader_offsets.specs.Calls.{check_read_and_collected_call}

@@ -1,8 +1,7 @@
 -- Each return is the answer to the first "no", or the rule's.
 use mathlib.Core.Path.{◌≡◌, sym, ◌∙◌}
 use native.Mathlib.Omega.{arith}
-use lib.ListN.{length, length-map}
-use borrow.Author.Rules.{rules}
+use lib.ListN.{length}
 use Rattle.reader_rules.specs.State.{state_number, max_ranges}
 use Rattle.reader_offsets.specs.Calls.{count_call}
 use Rattle.reader_offsets.proofs.Numbers.{partitions_refused, partitions_done}

@@ -1,7 +1,7 @@
 -- Each return is the answer to the first "no", or the rule's.
 use mathlib.Core.Path.{◌≡◌, refl, sym, ◌∙◌}
 use native.Mathlib.Omega.{arith}
-use lib.ListN.{length, length-map}
+use lib.ListN.{length}
 use borrow.Author.Tests.{not-true, not-false}
 use borrow.Author.Rules.{rules}
 use Rattle.reader_rules.specs.State.{state_number, max_ranges}

@@ -2,8 +2,7 @@
 use mathlib.Core.Path.{◌≡◌, sym, ap, ◌∙◌}
 use mathlib.Core.Bool.{true}
 use native.Mathlib.Omega.{arith}
-use lib.ListN.{length, length-map}
-use borrow.Author.Rules.{rules}
+use lib.ListN.{length}
 use Rattle.reader_rules.specs.State.{state_number, max_ranges}
 use Rattle.reader_rules.specs.Offsets.{shown_by}
 use Rattle.reader_offsets.specs.Calls.{last_offsets_call}

@@ -1,6 +1,5 @@
 -- Each return is the answer to the first "no", or the rule's.
 use mathlib.Core.Path.{◌≡◌, refl, sym, ◌∙◌}
-use borrow.Author.Rules.{rules}
 use Rattle.reader_rules.specs.State.{state_number}
 use Rattle.reader_offsets.specs.Calls.{not_fully_read_call}
 use Rattle.reader_offsets.proofs.Numbers.{flag_refused, flag_done}

@@ -1,6 +1,5 @@
 -- Each return is the answer to the first "no", or the rule's.
 use mathlib.Core.Path.{◌≡◌, sym, ◌∙◌}
-use borrow.Author.Rules.{rules}
 use Rattle.reader_rules.specs.State.{state_number}
 use Rattle.reader_offsets.specs.Calls.{pending_externals_call}
 use Rattle.reader_offsets.proofs.Numbers.{on_zero_lem, asked_first}

@@ -1,9 +1,8 @@
 -- Each return is the answer to the first "no", or the rule's.
 use mathlib.Core.Path.{◌≡◌, sym, ap, ◌∙◌}
 use native.Mathlib.Omega.{arith}
-use lib.ListN.{length, length-map}
+use lib.ListN.{length}
 use borrow.Author.Tests.{not-true, not-false}
-use borrow.Author.Rules.{rules}
 use Rattle.reader_rules.specs.State.{state_number, max_ranges}
 use Rattle.reader_rules.specs.Offsets.{ranges_meet}
 use Rattle.reader_offsets.specs.Calls.{offsets_reached_call}

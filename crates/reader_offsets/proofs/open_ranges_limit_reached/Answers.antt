@@ -2,7 +2,6 @@
 use Prim.Native.Nat.{ℕ}
 use mathlib.Core.Path.{sym, ap, ◌∙◌}
 use lib.Dec.{leb}
-use borrow.Author.Rules.{rules}
 use Rattle.reader_rules.specs.State.{settled_number}
 use Rattle.reader_offsets.specs.Calls.{limit_reached_call}
 use Rattle.reader_offsets.proofs.Numbers.{flag_refused, flag_done, first_of_two, second_of_two}

@@ -1,9 +1,8 @@
 -- Each return is the answer to the first "no", or the rule's.
 use mathlib.Core.Path.{◌≡◌, refl, sym, ◌∙◌}
 use native.Mathlib.Omega.{arith}
-use lib.ListN.{length, length-map}
+use lib.ListN.{length}
 use borrow.Author.Tests.{lt-ltb, le-ltb}
-use borrow.Author.Rules.{rules}
 use Rattle.reader_rules.specs.State.{state_number, max_ranges}
 use Rattle.reader_rules.specs.Offsets.{from_position}
 use Rattle.reader_offsets.specs.Calls.{set_from_call}

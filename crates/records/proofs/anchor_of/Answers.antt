@@ -1,5 +1,4 @@
 use Rattle.records.specs.Records.{anchor_in}
-use borrow.Author.Rules.{rules}
 use Rattle.records.proofs.anchor_of.Goals as goal
 
 pub returns : goal.returns

@@ -4,7 +4,6 @@ use Rattle.records.specs.Records.{author_of}
 use mathlib.Core.Path.{◌∙◌}
 use native.Mathlib.Omega.{arith}
 use borrow.Author.Tests.{le-leb, lt-leb}
-use borrow.Author.Rules.{rules}
 use Rattle.cache_rules.specs.Rules.{author_bytes}
 use Rattle.records.proofs.author_of.Goals as goal
 

@@ -1,6 +1,5 @@
 use Rattle.records.specs.Records.{record_number}
 use Rattle.rows.proofs.Laws.{told_yes, told_no}
-use borrow.Author.Rules.{rules}
 use Rattle.records.proofs.check_record.Goals as goal
 
 pub returns-then-not-is_in_place : goal.returns-then-not-is_in_place

@@ -1,6 +1,5 @@
 use Rattle.records.specs.Records.{as_stated}
 use borrow.Author.Tests.{ne_eqb}
-use borrow.Author.Rules.{rules}
 use Rattle.std.proofs.lemmas.Bool.Decides.{nat_tests}
 use Rattle.std.proofs.Common.{arith}
 use Rattle.records.proofs.is_as_stated.Goals as goal

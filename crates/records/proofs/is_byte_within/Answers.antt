@@ -1,7 +1,6 @@
 use Rattle.records.specs.Records.{byte_within}
 use mathlib.Core.Path.{sym}
 use borrow.Author.Tests.{le-leb, lt-leb}
-use borrow.Author.Rules.{rules}
 use Rattle.records.proofs.is_byte_within.Goals as goal
 
 pub returns-then-b-low : goal.returns-then-b-low

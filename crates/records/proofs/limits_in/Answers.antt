@@ -2,7 +2,6 @@ use Rattle.records.proofs.Laws.{rest_all, drop_all}
 use Rattle.records.specs.Records.{limits_of}
 use mathlib.Core.Path.{sym, ap, ◌∙◌}
 use native.Mathlib.Omega.{arith}
-use borrow.Author.Rules.{rules}
 use Rattle.records.proofs.limits_in.Goals as goal
 
 pub returns-then-p-lt18 : goal.returns-then-p-lt18

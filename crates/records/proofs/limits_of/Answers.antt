@@ -1,10 +1,8 @@
 use borrow.Author.Rules.{rules}
 use Rattle.records.specs.Records.{limit_at, limits_of}
-use lib.Seq.{sets}
 use Rattle.reader_rules.specs.Each.{each}
 use Rattle.reader_rules.proofs.Each.{each_start, each_next, each_end}
-use Prim.Native.Nat.{◌-◌, ◌≤◌}
-use mathlib.Core.Path.{◌≡◌, refl}
+use mathlib.Core.Path.{refl}
 use native.Mathlib.Omega.{arith}
 use Rattle.records.proofs.limits_of.Goals as goal
 

@@ -1,11 +1,8 @@
-use borrow.Author.Rules.{rules}
-use Rattle.records.specs.Records.{limit_at, limits_of}
+use Rattle.records.specs.Records.{limit_at}
 use lib.Seq.{sets}
 use Rattle.reader_rules.specs.Each.{each}
-use Rattle.reader_rules.proofs.Each.{each_start, each_next, each_end}
 use Prim.Native.Nat.{◌-◌, ◌≤◌}
-use mathlib.Core.Path.{◌≡◌, refl}
-use native.Mathlib.Omega.{arith}
+use mathlib.Core.Path.{◌≡◌}
 use Rattle.records.proofs.limits_of.Given as goal
 
 abbrev pub invariant-loop-i : goal.invariant-loop-i

@@ -1,5 +1,4 @@
 use Rattle.records.specs.Records.{params_of}
-use borrow.Author.Rules.{rules}
 use Rattle.records.proofs.params_of.Goals as goal
 
 pub returns : goal.returns

@@ -1,6 +1,5 @@
 use Rattle.records.proofs.Laws.{signed_low, signed_fits, signed_high}
 use native.Mathlib.Omega.{arith}
-use borrow.Author.Rules.{rules}
 use Rattle.records.proofs.signed.Goals as goal
 
 pub returns-then-x-lt2147483648 : goal.returns-then-x-lt2147483648

@@ -1,5 +1,4 @@
 -- The tests in the order of the definition; each that fails answers 3.
-use native.Mathlib.Omega.{arith}
 use Rattle.rows.proofs.Laws.{told_yes, told_no, rows_length}
 use lib.Dec.{leb, eqb}
 use mathlib.Core.Bool.{true}

@@ -1,5 +1,4 @@
 -- Question 3 first; where it is answered yes, the lookup.
-use native.Mathlib.Omega.{arith}
 use Rattle.router.specs.Router.{answer_of}
 use Rattle.router.specs.declared.Routed.TheVariants.{Partition}
 use Rattle.router.proofs.Laws.{refused_by_3, answered}

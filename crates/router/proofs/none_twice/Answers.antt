@@ -1,10 +1,7 @@
-use Rattle.rows.specs.Rows.{rows}
-use Rattle.router.specs.Router.{route_rows, none_twice}
 use Rattle.router.proofs.Laws.{twice_next, twice_stop, twice_end}
-use Prim.Native.Nat.{◌+◌, ◌*◌, ◌≤◌, ◌<◌}
-use mathlib.Core.Path.{◌≡◌, refl, sym, ◌∙◌}
+use mathlib.Core.Path.{refl, sym, ◌∙◌}
 use native.Mathlib.Omega.{arith}
-use lib.ListN.{length, drop}
+use lib.ListN.{drop}
 use Rattle.router.proofs.none_twice.Goals as goal
 
 pub loop-left-init : goal.loop-left-init

@@ -2,10 +2,8 @@
 -- the next turns look at.
 use Rattle.rows.specs.Rows.{rows}
 use Rattle.router.specs.Router.{route_rows, none_twice}
-use Rattle.router.proofs.Laws.{twice_next, twice_stop, twice_end}
 use Prim.Native.Nat.{◌+◌, ◌*◌, ◌≤◌, ◌<◌}
-use mathlib.Core.Path.{◌≡◌, refl, sym, ◌∙◌}
-use native.Mathlib.Omega.{arith}
+use mathlib.Core.Path.{◌≡◌}
 use lib.ListN.{length, drop}
 use Rattle.router.proofs.none_twice.Given as goal
 

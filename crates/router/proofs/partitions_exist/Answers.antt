@@ -1,10 +1,7 @@
 use Rattle.router.proofs.Laws.{exist_next, exist_stop, exist_end}
-use Rattle.rows.specs.Rows.{rows}
-use Rattle.router.specs.Router.{route_rows, partitions_exist}
-use Prim.Native.Nat.{◌+◌, ◌*◌, ◌≤◌}
-use mathlib.Core.Path.{◌≡◌, refl, sym, ◌∙◌}
+use mathlib.Core.Path.{refl, sym, ◌∙◌}
 use native.Mathlib.Omega.{arith}
-use lib.ListN.{length, drop}
+use lib.ListN.{drop}
 use Rattle.router.proofs.partitions_exist.Goals as goal
 
 pub loop-left-init : goal.loop-left-init

@@ -1,10 +1,8 @@
 -- Invariant: the partitions of the routes left exist exactly if all do.
-use Rattle.router.proofs.Laws.{exist_next, exist_stop, exist_end}
 use Rattle.rows.specs.Rows.{rows}
 use Rattle.router.specs.Router.{route_rows, partitions_exist}
 use Prim.Native.Nat.{◌+◌, ◌*◌, ◌≤◌}
-use mathlib.Core.Path.{◌≡◌, refl, sym, ◌∙◌}
-use native.Mathlib.Omega.{arith}
+use mathlib.Core.Path.{◌≡◌}
 use lib.ListN.{length, drop}
 use Rattle.router.proofs.partitions_exist.Given as goal
 

@@ -6,7 +6,6 @@ use Rattle.session_rules.specs.Said.{malformed_said}
 use Prim.Native.Nat.{◌-◌}
 use mathlib.Core.Path.{refl, sym, ◌∙◌}
 use lib.ListN.{length, take, drop}
-use borrow.Author.Rules.{rules}
 use Rattle.session.proofs.step.Goals as goal
 
 pub returns-then-not-is_taken : goal.returns-then-not-is_taken

@@ -1,5 +1,4 @@
 use Rattle.session_rules.proofs.Printed.{printed_same, printed_no_text, bad_where_refused, after_where_not}
-use borrow.Author.Rules.{rules}
 use Rattle.session_state.proofs.after_or_bad.Goals as goal
 
 pub returns-then-number-ne0 : goal.returns-then-number-ne0

@@ -1,5 +1,4 @@
 use Rattle.session_state.proofs.Laws.{anchor_printed, anchor_leaves}
-use borrow.Author.Rules.{rules}
 use Rattle.session_state.proofs.anchor.Goals as goal
 
 pub returns : goal.returns

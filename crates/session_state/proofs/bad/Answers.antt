@@ -1,6 +1,5 @@
 use Rattle.session_rules.specs.Said.{stop, bad_said}
 use Rattle.session_rules.proofs.Printed.{printed_text}
-use borrow.Author.Rules.{rules}
 use Rattle.session_state.proofs.bad.Goals as goal
 
 pub returns : goal.returns

@@ -1,5 +1,4 @@
 use Rattle.session_state.proofs.Laws.{cache_called}
-use borrow.Author.Rules.{rules}
 use Rattle.session_state.proofs.cache_call.Goals as goal
 
 pub returns : goal.returns

@@ -1,8 +1,6 @@
 use Rattle.session_rules.specs.Said.{stop}
 use Rattle.session_rules.proofs.Printed.{printed_text, printed_same, printed_no_text}
 use Rattle.session_state.proofs.Laws.{end_cut, end_early, end_stopped, end_printed}
-use mathlib.Core.Logic.{⊎_elim}
-use borrow.Author.Rules.{rules}
 use Rattle.session_state.proofs.end.Goals as goal
 use Rattle.session_state.proofs.end.Goals.{then-cut-via-then-cut, then-cut-via-else-cut+then-session-lt2}
 
@@ -11,7 +9,7 @@ returns-then-cut c =
     let c-args = c.args in
     printed_same _ _ _ _ c.malformed.ensures
     (elim c.then-cut.branch [
-        then-cut-via-then-cut w ↦ end_cut c-args.session c-args.cut w.if-cut.true
+      | then-cut-via-then-cut w ↦ end_cut c-args.session c-args.cut w.if-cut.true
       | then-cut-via-else-cut+then-session-lt2 w ↦ end_early c-args.session c-args.cut w.if-session-lt2.true-raw
     ])
 

@@ -1,7 +1,6 @@
 use Rattle.session_rules.specs.Said.{is_taken}
 use Rattle.session_state.proofs.Laws.{taken_as}
 use borrow.Author.Tests.{lt-ltb}
-use borrow.Author.Rules.{rules}
 use Rattle.session_state.proofs.is_taken.Goals as goal
 
 pub returns-then-session : goal.returns-then-session

@@ -1,6 +1,5 @@
 use Rattle.session_rules.proofs.Printed.{printed_same, printed_no_text, long_stopped}
 use Rattle.session_state.proofs.Laws.{long_refused}
-use borrow.Author.Rules.{rules}
 use Rattle.session_state.proofs.long_record.Goals as goal
 
 pub returns-then-session : goal.returns-then-session

@@ -1,6 +1,5 @@
 use Rattle.session_rules.specs.Said.{bad_said, malformed_said}
 use Rattle.session_rules.proofs.Printed.{printed_same, printed_no_text, malformed_stopped, malformed_refused}
-use borrow.Author.Rules.{rules}
 use Rattle.session_state.proofs.malformed.Goals as goal
 
 pub returns-then-session : goal.returns-then-session

@@ -1,5 +1,4 @@
 use Rattle.session_rules.specs.Said.{new_session}
-use borrow.Author.Rules.{rules}
 use Rattle.session_state.proofs.new.Goals as goal
 
 pub returns : goal.returns

@@ -1,5 +1,4 @@
 use Rattle.session_state.proofs.Laws.{as_anchor, as_route, as_call}
-use borrow.Author.Rules.{rules}
 use Rattle.session_state.proofs.plain.Goals as goal
 
 pub returns-then-kind-eq-ANCHOR : goal.returns-then-kind-eq-ANCHOR

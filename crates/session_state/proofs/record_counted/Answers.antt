@@ -2,7 +2,6 @@ use Rattle.session_rules.specs.Said.{record_counted}
 use Rattle.session_rules.proofs.AfterBad.{records_are_numbered_from_1}
 use mathlib.Core.Path.{sym}
 use borrow.Author.Tests.{le-ltb}
-use borrow.Author.Rules.{rules}
 use Rattle.session_state.proofs.record_counted.Goals as goal
 
 pub returns-then-session-lt18446744073709551615 : goal.returns-then-session-lt18446744073709551615

@@ -2,7 +2,6 @@ use Rattle.session_rules.proofs.Printed.{printed_same, printed_no_text}
 use Rattle.session_state.proofs.Laws.{listed_within, route_no, route_yes}
 use mathlib.Core.Path.{sym, ◌∙◌}
 use native.Mathlib.Omega.{arith}
-use borrow.Author.Rules.{rules}
 use Rattle.session_state.proofs.route.Goals as goal
 
 pub returns-then-number-ne0 : goal.returns-then-number-ne0

@@ -1,7 +1,6 @@
 -- `shard_ident::check_shard` meets its contract: the machine's count of trailing zeros is the tag's place.
 use mathlib.Core.Path.{sym, ◌∙◌}
 use native.Mathlib.Omega.{arith}
-use borrow.Author.Rules.{rules}
 use Rattle.rows.proofs.Laws.{pick_yes, pick_no}
 use Rattle.shard_ident.proofs.Laws.{tag_trailing, no_prefix, low_tag, split_masterchain, high_tag}
 use Rattle.shard_ident.proofs.check_shard.Goals as goal

@@ -1,6 +1,5 @@
 -- `shard_ident::contains_address` meets its contract.
 use mathlib.Core.Path.{sym, ◌∙◌}
-use borrow.Author.Rules.{rules}
 use Rattle.shard_ident.proofs.Laws.{question_yes, question_no, shard_prefix, refused, member, no_member}
 use Rattle.shard_ident.proofs.contains_address.Goals as goal
 

@@ -1,6 +1,5 @@
 -- `shard_ident::contains_message` meets its contract.
 use mathlib.Core.Path.{◌∙◌}
-use borrow.Author.Rules.{rules}
 use Rattle.shard_ident.proofs.Laws.{question_yes, question_no, shard_prefix, refused, member, no_member, short_message, message_ours}
 use Rattle.shard_ident.proofs.contains_message.Goals as goal
 

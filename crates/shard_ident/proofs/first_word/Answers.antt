@@ -1,7 +1,6 @@
 -- `shard_ident::first_word` meets its contract: bytes that are shifted apart share no bit, so their or is their sum.
 use mathlib.Core.Path.{◌∙◌}
 use native.Mathlib.Omega.{arith}
-use borrow.Author.Rules.{rules}
 use Rattle.shard_ident.proofs.Laws.{or_eight, be_eight}
 use Rattle.shard_ident.proofs.first_word.Goals as goal
 

@@ -4,7 +4,6 @@ use mathlib.Core.Bool.{true, false}
 use mir.Syntax.{w32}
 use mir.ValLaws.{to_z-of_z}
 use borrow.Author.Tests.{not-true, not-false}
-use borrow.Author.Rules.{rules}
 use Rattle.shard_ident.specs.Shard.{same_workchain}
 use Rattle.shard_ident.proofs.in_shard.Goals as goal
 

@@ -2,7 +2,6 @@
 use Prim.Native.Nat.{◌-◌}
 use native.Mathlib.Omega.{arith}
 use borrow.Author.Tests.{lt-ltb, le-ltb}
-use borrow.Author.Rules.{rules}
 use Rattle.shard_ident.specs.Shard.{same_workchain}
 use Rattle.shard_ident.proofs.Signed.{same_pos, same_neg, lowered}
 use Rattle.shard_ident.proofs.same_workchain.Goals as goal

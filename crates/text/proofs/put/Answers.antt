@@ -1,5 +1,4 @@
 -- Past the end nothing is shown, else all of the text or as much as there is room for.
-use borrow.Author.Rules.{rules}
 use Rattle.text.proofs.Laws.{show_past, show_part, show_whole}
 use Rattle.text.proofs.put.Goals as goal
 

@@ -1,5 +1,4 @@
 use Rattle.text.proofs.Laws.{show_joined}
-use borrow.Author.Rules.{rules}
 use Rattle.text.proofs.put_joined.Goals as goal
 
 pub returns : goal.returns

@@ -1,4 +1,3 @@
-use borrow.Author.Rules.{rules}
 use Rattle.text.proofs.Laws.{show_line}
 use Rattle.text.proofs.put_line.Goals as goal
 

@@ -1,4 +1,3 @@
-use borrow.Author.Rules.{rules}
 use Rattle.text.proofs.Laws.{show_marked}
 use Rattle.text.proofs.put_marked.Goals as goal
 

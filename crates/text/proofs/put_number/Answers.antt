@@ -1,6 +1,5 @@
 use Rattle.text.proofs.Laws.{spaced_marked}
 use mathlib.Core.List.{[], ◌∷◌}
-use borrow.Author.Rules.{rules}
 use Rattle.text.proofs.put_number.Goals as goal
 
 pub returns : goal.returns

@@ -1,8 +1,5 @@
-use Prim.Native.Nat.{◌-◌}
-use mathlib.Core.Path.{◌≡◌, refl, sym, ◌∙◌}
-use lib.ListN.{length, drop}
+use mathlib.Core.Path.{refl, sym, ◌∙◌}
 use borrow.Author.Rules.{rules}
-use Rattle.text.specs.Shown.{show, marked}
 use Rattle.text.proofs.Laws.{numbers_turn, numbers_end}
 use Rattle.text.proofs.put_numbers.Goals as goal
 

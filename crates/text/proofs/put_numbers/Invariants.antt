@@ -1,10 +1,8 @@
 -- Invariant: the numbers left, shown behind what is shown so far, are all the numbers shown from the start.
 use Prim.Native.Nat.{◌-◌}
-use mathlib.Core.Path.{◌≡◌, refl, sym, ◌∙◌}
+use mathlib.Core.Path.{◌≡◌}
 use lib.ListN.{length, drop}
-use borrow.Author.Rules.{rules}
 use Rattle.text.specs.Shown.{show, marked}
-use Rattle.text.proofs.Laws.{numbers_turn, numbers_end}
 use Rattle.text.proofs.put_numbers.Given as goal
 
 abbrev pub invariant-loop-i : goal.invariant-loop-i

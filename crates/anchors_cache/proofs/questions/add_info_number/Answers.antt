@@ -1,9 +1,7 @@
 use Rattle.anchors_cache.proofs.Asked.{info_refused, info_asked}
-use Prim.Native.Nat.{◌-◌}
 use mathlib.Core.Path.{sym, ◌∙◌, ap}
 use mathlib.Core.Bool.{Bool, not}
 use borrow.Author.Tests.{lt-ltb, le-ltb}
-use borrow.Author.Rules.{rules}
 use Rattle.cache_rules.specs.Rules.{ask}
 use Rattle.anchors_cache.proofs.questions.add_info_number.Goals as goal
 

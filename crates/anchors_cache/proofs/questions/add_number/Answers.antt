@@ -1,8 +1,6 @@
 use Rattle.anchors_cache.proofs.Asked.{add_refused, add_six, add_seven, add_eight, add_nine, add_zero, refusal_parts}
-use Prim.Native.Nat.{◌-◌}
 use mathlib.Core.Path.{sym, ◌∙◌}
 use borrow.Author.Tests.{not-true, not-false}
-use borrow.Author.Rules.{rules}
 use Rattle.anchors_cache.proofs.questions.add_number.Goals as goal
 
 pub returns-then-r-ne0 : goal.returns-then-r-ne0

@@ -1,8 +1,6 @@
 use Rattle.cache_rules.specs.Rules.{room, max_anchors, max_history}
-use Prim.Native.Nat.{◌-◌}
 use native.Mathlib.Omega.{arith}
 use borrow.Author.Tests.{lt-ltb, le-ltb}
-use borrow.Author.Rules.{rules}
 use Rattle.anchors_cache.proofs.questions.has_room.Goals as goal
 
 pub returns-then-history-ge-MAX_HISTORY : goal.returns-then-history-ge-MAX_HISTORY

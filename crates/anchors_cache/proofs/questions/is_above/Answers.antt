@@ -1,10 +1,8 @@
 use Rattle.anchors_cache.specs.declared.CachedAnchor.{CachedAnchor}
 use Rattle.cache_rules.specs.Rules.{last_of}
 use Rattle.anchors_cache.proofs.Laws.{anchors_none, last_anchor}
-use Prim.Native.Nat.{◌-◌}
 use mathlib.Core.Path.{ap}
 use native.Mathlib.Omega.{arith}
-use borrow.Author.Rules.{rules}
 use Rattle.anchors_cache.proofs.questions.is_above.Goals as goal
 
 pub returns-then-len-eq0 : goal.returns-then-len-eq0

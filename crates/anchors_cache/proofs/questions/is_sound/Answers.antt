@@ -1,7 +1,5 @@
-use Prim.Native.Nat.{◌-◌}
 use native.Mathlib.Omega.{arith}
 use borrow.Author.Tests.{lt-ltb, le-ltb, le-leb, lt-leb}
-use borrow.Author.Rules.{rules}
 use Rattle.anchors_cache.proofs.questions.is_sound.Goals as goal
 
 pub returns-then-a-low : goal.returns-then-a-low

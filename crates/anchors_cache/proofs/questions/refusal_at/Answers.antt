@@ -1,7 +1,5 @@
 use Rattle.anchors_cache.proofs.Asked.{at_refused, at_asked}
-use Prim.Native.Nat.{◌-◌}
 use mathlib.Core.Path.{sym, ◌∙◌}
-use borrow.Author.Rules.{rules}
 use Rattle.anchors_cache.proofs.questions.refusal_at.Goals as goal
 
 pub returns-then-r-ne0 : goal.returns-then-r-ne0

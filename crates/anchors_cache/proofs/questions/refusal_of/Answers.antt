@@ -1,9 +1,7 @@
 use Rattle.anchors_cache.specs.Calls.{refusal}
-use Prim.Native.Nat.{◌-◌}
 use mathlib.Core.Path.{sym, ◌∙◌}
 use native.Mathlib.Omega.{arith}
 use borrow.Author.Tests.{le-leb, lt-leb}
-use borrow.Author.Rules.{rules}
 use Rattle.cache_rules.specs.Rules.{area_bytes}
 use Rattle.anchors_cache.proofs.questions.refusal_of.Goals as goal
 

@@ -1,7 +1,5 @@
 use Rattle.anchors_cache.specs.Calls.{refusal_seen}
-use Prim.Native.Nat.{◌-◌}
 use mathlib.Core.Path.{sym, ◌∙◌}
-use borrow.Author.Rules.{rules}
 use Rattle.anchors_cache.proofs.questions.refusal_seen.Goals as goal
 
 pub returns-then-valid_state : goal.returns-then-valid_state

@@ -1,8 +1,7 @@
 use Rattle.cache_rules.specs.Rules.{right_size, max_anchor_messages}
-use Prim.Native.Nat.{◌-◌, ◌*◌, ◌/◌}
+use Prim.Native.Nat.{◌*◌, ◌/◌}
 use native.Mathlib.Omega.{arith}
 use borrow.Author.Tests.{le-leb, lt-leb}
-use borrow.Author.Rules.{rules}
 use Rattle.anchors_cache.proofs.questions.right_size.Goals as goal
 
 pub returns-then-k : goal.returns-then-k

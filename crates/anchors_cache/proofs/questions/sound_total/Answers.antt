@@ -1,10 +1,9 @@
 use Rattle.anchors_cache.specs.declared.CachedAnchor.{CachedAnchor}
-use Rattle.cache_rules.specs.Rules.{sound_row, max_anchors, max_anchor_messages}
-use Rattle.anchors_cache.specs.Tables.{anchors, anchor_at}
-use Rattle.anchors_cache.specs.Calls.{sound_total, sound_anchor}
+use Rattle.cache_rules.specs.Rules.{sound_row}
+use Rattle.anchors_cache.specs.Tables.{anchor_at}
+use Rattle.anchors_cache.specs.Calls.{sound_anchor}
 use Rattle.anchors_cache.proofs.Asked.{row_count, row_sound, sound_next, sound_stop, sound_end}
 use borrow.Author.Rules.{rules}
-use Prim.Native.Nat.{◌+◌, ◌-◌, ◌*◌, ◌≤◌}
 use mathlib.Core.Path.{◌≡◌, refl, sym, ap, ◌∙◌}
 use mathlib.Core.Bool.{true, false}
 use native.Mathlib.Omega.{arith}

@@ -1,14 +1,8 @@
-use Rattle.anchors_cache.specs.declared.CachedAnchor.{CachedAnchor}
-use Rattle.cache_rules.specs.Rules.{sound_row, max_anchors, max_anchor_messages}
-use Rattle.anchors_cache.specs.Tables.{anchors, anchor_at}
-use Rattle.anchors_cache.specs.Calls.{sound_total, sound_anchor}
-use Rattle.anchors_cache.proofs.Asked.{row_count, row_sound, sound_next, sound_stop, sound_end}
-use borrow.Author.Rules.{rules}
-use Prim.Native.Nat.{◌+◌, ◌-◌, ◌*◌, ◌≤◌}
-use mathlib.Core.Path.{◌≡◌, refl, sym, ap, ◌∙◌}
-use mathlib.Core.Bool.{true, false}
-use native.Mathlib.Omega.{arith}
-use borrow.Author.Tests.{not-true, not-false}
+use Rattle.cache_rules.specs.Rules.{max_anchors, max_anchor_messages}
+use Rattle.anchors_cache.specs.Tables.{anchors}
+use Rattle.anchors_cache.specs.Calls.{sound_total}
+use Prim.Native.Nat.{◌+◌, ◌*◌, ◌≤◌}
+use mathlib.Core.Path.{◌≡◌}
 use Rattle.anchors_cache.proofs.questions.sound_total.Given as goal
 
 abbrev pub invariant-loop-left : goal.invariant-loop-left

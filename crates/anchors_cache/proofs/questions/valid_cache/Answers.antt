@@ -1,11 +1,9 @@
 use Rattle.anchors_cache.specs.Calls.{valid_cache}
 use Rattle.anchors_cache.proofs.Asked.{all_sound, not_sound}
 use borrow.Author.Tests.{leb-true, le-leb, lt-leb, not-true, not-false}
-use Prim.Native.Nat.{◌-◌}
 use mathlib.Core.Path.{sym, ◌∙◌}
 use native.Mathlib.Omega.{arith}
 use lib.ListN.{length}
-use borrow.Author.Rules.{rules}
 use Rattle.cache_rules.specs.Rules.{max_messages}
 use Rattle.anchors_cache.specs.Tables.{tables_bytes}
 use Rattle.anchors_cache.proofs.questions.valid_cache.Goals as goal

@@ -1,8 +1,6 @@
 use Rattle.anchors_cache.proofs.Asked.{valid_not, valid_open, valid_same, valid_shut, same_window_lem}
-use Prim.Native.Nat.{◌-◌}
 use mathlib.Core.Path.{sym, ◌∙◌}
 use borrow.Author.Tests.{not-true, not-false}
-use borrow.Author.Rules.{rules}
 use Rattle.anchors_cache.proofs.questions.valid_state.Goals as goal
 
 pub returns-then-not-valid_cache : goal.returns-then-not-valid_cache

@@ -1,6 +1,5 @@
 use Rattle.anchors_cache.proofs.Laws.{anchor_written}
 use Rattle.anchors_cache.specs.Calls.{row_for}
-use Prim.Native.Nat.{◌-◌}
 use mathlib.Core.Path.{◌≡◌, refl}
 use lib.ListN.{length}
 use borrow.Author.Rules.{rules}

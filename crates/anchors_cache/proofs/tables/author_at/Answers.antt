@@ -1,7 +1,5 @@
 use Rattle.anchors_cache.proofs.Laws.{author_copied}
-use Prim.Native.Nat.{◌-◌}
 use mathlib.Core.Path.{◌∙◌}
-use borrow.Author.Rules.{rules}
 use Rattle.anchors_cache.proofs.tables.author_at.Goals as goal
 
 pub returns : goal.returns

@@ -1,10 +1,9 @@
 use Rattle.anchors_cache.specs.declared.AnchorInfo.{AnchorInfo}
-use Rattle.cache_rules.specs.Rules.{drop_stale, max_history}
-use Rattle.anchors_cache.specs.Tables.{infos, info_at}
+use Rattle.anchors_cache.specs.Tables.{info_at}
 use Rattle.anchors_cache.proofs.Laws.{infos_length, stale_more, stale_stop, stale_few}
 use borrow.Author.Rules.{rules}
-use Prim.Native.Nat.{◌+◌, ◌-◌, ◌≤◌, ◌<◌}
-use mathlib.Core.Path.{◌≡◌, refl, sym, ap, ◌∙◌}
+use Prim.Native.Nat.{◌≤◌, ◌<◌}
+use mathlib.Core.Path.{refl, sym, ap, ◌∙◌}
 use native.Mathlib.Omega.{arith}
 use lib.ListN.{length}
 use Rattle.anchors_cache.proofs.tables.fresh_len.Goals as goal

@@ -1,8 +1,7 @@
 use Rattle.anchors_cache.proofs.Laws.{row_num}
-use Prim.Native.Nat.{◌-◌, ◌*◌}
+use Prim.Native.Nat.{◌*◌}
 use mathlib.Core.Path.{◌∙◌}
 use native.Mathlib.Omega.{arith}
-use borrow.Author.Rules.{rules}
 use Rattle.anchors_cache.proofs.tables.info_at.Goals as goal
 
 pub returns : goal.returns

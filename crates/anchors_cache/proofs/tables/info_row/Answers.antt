@@ -1,9 +1,7 @@
 use Rattle.anchors_cache.proofs.Laws.{info_written}
 use Rattle.anchors_cache.specs.Calls.{info_with}
-use Prim.Native.Nat.{◌-◌}
 use mathlib.Core.Path.{◌≡◌, refl}
 use lib.ListN.{length}
-use borrow.Author.Rules.{rules}
 use Rattle.cache_rules.specs.Rules.{author_bytes}
 use Rattle.anchors_cache.proofs.tables.info_row.Goals as goal
 

@@ -1,11 +1,9 @@
 use Rattle.anchors_cache.specs.declared.CachedAnchor.{CachedAnchor}
-use Rattle.cache_rules.specs.Rules.{trim_back}
-use Rattle.anchors_cache.specs.Tables.{anchors, anchor_at}
-use Rattle.anchors_cache.specs.Windows.{row_time}
+use Rattle.anchors_cache.specs.Tables.{anchor_at}
 use Rattle.anchors_cache.proofs.Laws.{anchors_length, kept_more, kept_stop, kept_none}
 use borrow.Author.Rules.{rules}
 use Prim.Native.Nat.{◌+◌, ◌-◌, ◌≤◌, ◌<◌}
-use mathlib.Core.Path.{◌≡◌, refl, sym, ap, ◌∙◌}
+use mathlib.Core.Path.{refl, sym, ap, ◌∙◌}
 use native.Mathlib.Omega.{arith}
 use lib.ListN.{length}
 use Rattle.anchors_cache.proofs.tables.kept_len.Goals as goal

@@ -1,13 +1,8 @@
-use Rattle.anchors_cache.specs.declared.CachedAnchor.{CachedAnchor}
 use Rattle.cache_rules.specs.Rules.{trim_back}
-use Rattle.anchors_cache.specs.Tables.{anchors, anchor_at}
+use Rattle.anchors_cache.specs.Tables.{anchors}
 use Rattle.anchors_cache.specs.Windows.{row_time}
-use Rattle.anchors_cache.proofs.Laws.{anchors_length, kept_more, kept_stop, kept_none}
-use borrow.Author.Rules.{rules}
-use Prim.Native.Nat.{◌+◌, ◌-◌, ◌≤◌, ◌<◌}
-use mathlib.Core.Path.{◌≡◌, refl, sym, ap, ◌∙◌}
-use native.Mathlib.Omega.{arith}
-use lib.ListN.{length}
+use Prim.Native.Nat.{◌≤◌}
+use mathlib.Core.Path.{◌≡◌}
 use Rattle.anchors_cache.proofs.tables.kept_len.Given as goal
 
 abbrev pub invariant-loop-left : goal.invariant-loop-left

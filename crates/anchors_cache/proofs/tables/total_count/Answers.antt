@@ -1,10 +1,6 @@
 use Rattle.anchors_cache.specs.declared.CachedAnchor.{CachedAnchor}
-use Rattle.cache_rules.specs.Rules.{total, max_anchors}
-use Rattle.anchors_cache.specs.Tables.{anchors}
 use Rattle.anchors_cache.proofs.Laws.{total_more, total_none}
-use borrow.Author.Rules.{rules}
-use Prim.Native.Nat.{◌+◌, ◌-◌, ◌*◌, ◌≤◌}
-use mathlib.Core.Path.{◌≡◌, ap}
+use mathlib.Core.Path.{ap}
 use native.Mathlib.Omega.{arith}
 use Rattle.anchors_cache.proofs.tables.total_count.Goals as goal
 

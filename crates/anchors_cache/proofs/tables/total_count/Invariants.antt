@@ -1,11 +1,7 @@
-use Rattle.anchors_cache.specs.declared.CachedAnchor.{CachedAnchor}
 use Rattle.cache_rules.specs.Rules.{total, max_anchors}
 use Rattle.anchors_cache.specs.Tables.{anchors}
-use Rattle.anchors_cache.proofs.Laws.{total_more, total_none}
-use borrow.Author.Rules.{rules}
-use Prim.Native.Nat.{◌+◌, ◌-◌, ◌*◌, ◌≤◌}
-use mathlib.Core.Path.{◌≡◌, ap}
-use native.Mathlib.Omega.{arith}
+use Prim.Native.Nat.{◌+◌, ◌*◌, ◌≤◌}
+use mathlib.Core.Path.{◌≡◌}
 use Rattle.anchors_cache.proofs.tables.total_count.Given as goal
 
 abbrev pub invariant-loop-left : goal.invariant-loop-left

@@ -1,6 +1,5 @@
 use Rattle.anchors_cache.specs.Calls.{row_for}
 use Rattle.anchors_cache.proofs.Adding.{half_asks, add_none, add_some}
-use Prim.Native.Nat.{◌-◌}
 use mathlib.Core.Path.{◌≡◌}
 use native.Mathlib.Omega.{arith}
 use lib.ListN.{length}

@@ -2,11 +2,10 @@ use Rattle.rows.specs.declared.Appended.{Appended}
 use Rattle.anchors_cache.specs.Windows.{in_history}
 use Rattle.anchors_cache.specs.Calls.{placed_at}
 use Rattle.anchors_cache.proofs.Laws.{placed_fits, append_fits}
-use Prim.Native.Nat.{◌-◌, ◌*◌}
+use Prim.Native.Nat.{◌*◌}
 use mathlib.Core.Path.{◌≡◌, refl, ap, ◌∙◌}
 use native.Mathlib.Omega.{arith}
 use lib.ListN.{length}
-use borrow.Author.Rules.{rules}
 use Rattle.anchors_cache.specs.Tables.{history_bytes}
 use Rattle.anchors_cache.proofs.windows.in_history.Goals as goal
 

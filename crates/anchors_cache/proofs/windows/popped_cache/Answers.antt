@@ -1,10 +1,8 @@
 use Rattle.anchors_cache.specs.declared.CachedAnchor.{CachedAnchor}
 use Rattle.anchors_cache.specs.Windows.{popped_cache}
 use Rattle.anchors_cache.proofs.Laws.{anchors_none, anchors_cons, fresh_le}
-use Prim.Native.Nat.{◌-◌}
 use mathlib.Core.Path.{ap}
 use native.Mathlib.Omega.{arith}
-use borrow.Author.Rules.{rules}
 use Rattle.anchors_cache.proofs.windows.popped_cache.Goals as goal
 
 pub returns-then-len-eq0 : goal.returns-then-len-eq0

@@ -1,8 +1,5 @@
-use Rattle.anchors_cache.specs.Windows.{Lies, popped_times}
 use Rattle.anchors_cache.proofs.Laws.{popped_lies, times_more, times_none, times_empty}
-use borrow.Author.Rules.{rules}
-use Prim.Native.Nat.{◌-◌}
-use mathlib.Core.Path.{◌≡◌, refl, sym, ◌∙◌}
+use mathlib.Core.Path.{refl, sym, ◌∙◌}
 use native.Mathlib.Omega.{arith}
 use Rattle.anchors_cache.proofs.windows.popped_times.Goals as goal
 

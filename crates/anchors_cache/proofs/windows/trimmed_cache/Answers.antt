@@ -1,7 +1,5 @@
 use Rattle.anchors_cache.specs.Windows.{trimmed_cache}
-use Prim.Native.Nat.{◌-◌}
 use borrow.Author.Tests.{lt-ltb, le-ltb}
-use borrow.Author.Rules.{rules}
 use Rattle.anchors_cache.proofs.windows.trimmed_cache.Goals as goal
 
 pub returns-then-left-len : goal.returns-then-left-len

@@ -1,5 +1,4 @@
 use Rattle.externals_reader.proofs.Laws.{last_none, last_some}
-use Prim.Native.Nat.{◌-◌}
 use Rattle.externals_reader.proofs.next.last_seqno.Goals as goal
 
 pub returns-then-len-eq0 : goal.returns-then-len-eq0

@@ -1,6 +1,5 @@
 use Rattle.externals_reader.proofs.Laws.{last_none, last_some}
 use Rattle.range_rules.specs.Rules.{no_key}
-use Prim.Native.Nat.{◌-◌}
 use Rattle.externals_reader.proofs.next.last_to.Goals as goal
 
 pub returns-then-len-eq0 : goal.returns-then-len-eq0

@@ -1,14 +1,10 @@
-use mathlib.Core.List.{map}
 use Rattle.reader_rules.specs.Each.{each}
-use Rattle.reader_rules.proofs.Each.{each_start, each_next, each_end, each_map}
 use Rattle.reader_rules.specs.State.{no_reader_partition}
-use lib.Seq.{sets, take_all}
+use lib.Seq.{sets}
 use Rattle.reader_rules.specs.Rules.{next_partition}
-use borrow.Author.Rules.{rules}
 use Prim.Native.Nat.{ℕ, ◌-◌, ◌≤◌}
-use mathlib.Core.Path.{◌≡◌, refl, ap, ◌∙◌}
-use native.Mathlib.Omega.{arith}
-use lib.ListN.{length, get_or}
+use mathlib.Core.Path.{◌≡◌}
+use lib.ListN.{get_or}
 use Rattle.externals_reader.proofs.next.next_partitions.Given as goal
 
 abbrev pub invariant-loop-i : goal.invariant-loop-i

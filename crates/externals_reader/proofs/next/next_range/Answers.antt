@@ -1,7 +1,5 @@
 use Rattle.reader_rules.specs.Rules.{next_range}
-use Prim.Native.Nat.{◌-◌}
 use mathlib.Core.Path.{◌∙◌}
-use borrow.Author.Rules.{rules}
 use Rattle.externals_reader.proofs.next.next_range.Goals as goal
 
 pub returns : goal.returns

@@ -1,9 +1,7 @@
 use Rattle.externals_reader.proofs.Laws.{no_next_refused, no_next_unread, no_next_refill, no_next_settings, no_next_limit, next_by_seqno}
 use Rattle.reader_rules.specs.Rules.{continues, read_of}
-use Prim.Native.Nat.{◌-◌}
 use mathlib.Core.Path.{ap}
 use borrow.Author.Tests.{not-true, not-false}
-use borrow.Author.Rules.{rules}
 use Rattle.externals_reader.proofs.next.wants_next.Goals as goal
 
 pub returns-then-s-ne0 : goal.returns-then-s-ne0

@@ -4,13 +4,11 @@ use Rattle.cache_rules.specs.Rules.{ask, area_bytes}
 use Rattle.messages_buffer.proofs.Laws.{first_no_lem, first_yes, first_alone}
 use Rattle.externals_reader.specs.Calls.{asked_of_read}
 use Rattle.externals_reader.proofs.Sound.{by_pieces}
-use Prim.Native.Nat.{◌-◌}
 use mathlib.Core.Path.{sym, ap, ◌∙◌}
 use mathlib.Core.Bool.{Bool}
 use mathlib.Core.List.{[], ◌∷◌}
 use native.Mathlib.Omega.{arith}
 use borrow.Author.Tests.{le-leb, lt-leb, not-true, not-false}
-use borrow.Author.Rules.{rules}
 use Rattle.externals_reader.proofs.questions.asked_of_read.Goals as goal
 
 pub returns-then-area-lt-AREA_BYTES : goal.returns-then-area-lt-AREA_BYTES

@@ -1,9 +1,7 @@
 use Rattle.messages_buffer.proofs.Laws.{first_no_lem, first_yes, first_alone}
 use Rattle.reader_rules.specs.State.{reader_number}
 use Rattle.externals_reader.proofs.Sound.{by_pieces}
-use Prim.Native.Nat.{◌-◌}
 use mathlib.Core.Path.{sym, ◌∙◌}
-use borrow.Author.Rules.{rules}
 use Rattle.externals_reader.proofs.questions.asked_of_reader.Goals as goal
 
 pub returns-then-of_shard-ne0 : goal.returns-then-of_shard-ne0

@@ -1,7 +1,5 @@
 use Rattle.messages_buffer.proofs.Laws.{first_no_lem, first_yes, first_alone}
-use Prim.Native.Nat.{◌-◌}
 use mathlib.Core.Path.{sym, ◌∙◌}
-use borrow.Author.Rules.{rules}
 use Rattle.externals_reader.proofs.questions.asked_of_settings.Goals as goal
 
 pub returns-then-of_settings-ne0 : goal.returns-then-of_settings-ne0

@@ -1,6 +1,5 @@
 -- The two tests in order.
 use borrow.Author.Tests.{lt-leb, le-leb}
-use borrow.Author.Rules.{rules}
 use Rattle.externals_reader.proofs.questions.is_sound.Goals as goal
 
 pub returns-then-seqno-low : goal.returns-then-seqno-low

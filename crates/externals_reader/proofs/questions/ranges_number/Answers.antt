@@ -1,8 +1,6 @@
 use Rattle.externals_reader.proofs.Sound.{too_many_ranges, unsound_ranges, sound_table}
-use Prim.Native.Nat.{◌-◌}
 use mathlib.Core.Path.{sym, ◌∙◌}
 use borrow.Author.Tests.{not-true, not-false}
-use borrow.Author.Rules.{rules}
 use Rattle.externals_reader.proofs.questions.ranges_number.Goals as goal
 
 pub returns-then-len-gt-MAX_RANGES : goal.returns-then-len-gt-MAX_RANGES

@@ -1,12 +1,7 @@
 -- The loop keeps that the ranges left decide.
 use Prim.Native.Nat.{◌+◌, ◌≤◌}
-use mathlib.Core.Path.{◌≡◌, refl, sym, ◌∙◌}
-use native.Mathlib.Omega.{arith}
-use lib.ListN.{length}
-use borrow.Author.Tests.{not-true, not-false}
-use borrow.Author.Rules.{rules}
+use mathlib.Core.Path.{◌≡◌}
 use Rattle.rows.specs.Rows.{part}
-use Rattle.externals_reader.proofs.Sound.{sound_fail, sound_next, sound_end}
 use Rattle.reader_rules.specs.State.{sound_ranges_from, max_ranges}
 use Rattle.externals_reader.proofs.questions.sound_ranges.Given as goal
 

@@ -11,7 +11,6 @@ use mathlib.Core.List.{List}
 use native.Mathlib.Omega.{arith}
 use lib.ListN.{length}
 use borrow.Author.Tests.{lt-ltb, le-leb}
-use borrow.Author.Rules.{rules}
 use Rattle.externals_reader.proofs.ranges.last_imported.Goals as goal
 
 pub returns-then-cache-eq0 : goal.returns-then-cache-eq0

@@ -1,10 +1,8 @@
-use Rattle.reader_rules.specs.Each.{each}
 use Rattle.reader_rules.proofs.Each.{each_start, each_next, each_end}
 use Rattle.reader_rules.specs.State.{no_reader_partition}
-use lib.Seq.{sets}
 use Rattle.reader_rules.specs.Rules.{with_default, partitions_entered}
 use borrow.Author.Rules.{rules}
-use Prim.Native.Nat.{ℕ, ◌-◌, ◌≤◌}
+use Prim.Native.Nat.{ℕ}
 use mathlib.Core.Path.{◌≡◌}
 use native.Mathlib.Omega.{arith}
 use lib.ListN.{length, get_or}

@@ -1,5 +1,3 @@
-use Prim.Native.Nat.{◌-◌}
-use borrow.Author.Rules.{rules}
 use Rattle.externals_reader.proofs.ranges.range_entered.Goals as goal
 
 pub returns : goal.returns

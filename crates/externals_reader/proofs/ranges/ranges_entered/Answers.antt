@@ -4,7 +4,7 @@ use Rattle.reader_rules.specs.State.{no_range, max_ranges}
 use lib.Seq.{sets}
 use Rattle.reader_rules.specs.Rules.{range_entered}
 use borrow.Author.Rules.{rules}
-use Prim.Native.Nat.{ℕ, ◌-◌, ◌≤◌}
+use Prim.Native.Nat.{ℕ}
 use mathlib.Core.Path.{◌≡◌, ap, ◌∙◌}
 use native.Mathlib.Omega.{arith}
 use lib.ListN.{length, get_or}

@@ -1,13 +1,10 @@
 use Rattle.reader_rules.specs.Each.{each}
-use Rattle.reader_rules.proofs.Each.{each_start, each_next, each_map}
-use Rattle.reader_rules.specs.State.{no_range, max_ranges}
+use Rattle.reader_rules.specs.State.{no_range}
 use lib.Seq.{sets}
 use Rattle.reader_rules.specs.Rules.{range_entered}
-use borrow.Author.Rules.{rules}
 use Prim.Native.Nat.{ℕ, ◌-◌, ◌≤◌}
-use mathlib.Core.Path.{◌≡◌, ap, ◌∙◌}
-use native.Mathlib.Omega.{arith}
-use lib.ListN.{length, get_or}
+use mathlib.Core.Path.{◌≡◌}
+use lib.ListN.{get_or}
 use Rattle.externals_reader.proofs.ranges.ranges_entered.Given as goal
 
 abbrev pub invariant-loop-i : goal.invariant-loop-i

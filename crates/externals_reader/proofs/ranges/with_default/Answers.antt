@@ -1,6 +1,5 @@
 use Rattle.rows.proofs.Laws.{or_later, or_none, pick_yes, pick_no}
 use Rattle.reader_rules.specs.Rules.{with_default}
-use Prim.Native.Nat.{◌-◌}
 use mathlib.Core.Path.{sym}
 use borrow.Author.Tests.{eq-eqb, ne_eqb}
 use Rattle.externals_reader.proofs.ranges.with_default.Goals as goal

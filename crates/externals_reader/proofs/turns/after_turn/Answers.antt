@@ -1,6 +1,4 @@
 use Rattle.externals_reader.proofs.TurnLaws.{done_refused, done_read}
-use Prim.Native.Nat.{◌-◌}
-use borrow.Author.Rules.{rules}
 use Rattle.externals_reader.proofs.turns.after_turn.Goals as goal
 
 pub returns-then-a-ne0 : goal.returns-then-a-ne0

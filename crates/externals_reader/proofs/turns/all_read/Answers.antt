@@ -1,5 +1,4 @@
 use Rattle.rows.proofs.Laws.{no_later, yes_later}
-use Prim.Native.Nat.{◌-◌}
 use borrow.Author.Tests.{not-true, not-false}
 use Rattle.externals_reader.proofs.turns.all_read.Goals as goal
 

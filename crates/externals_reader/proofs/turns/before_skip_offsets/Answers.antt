@@ -1,10 +1,8 @@
 use Rattle.externals_reader.proofs.Laws.{before_stop, before_next, before_end}
-use Rattle.reader_rules.specs.Rules.{before_skip_offsets}
 use borrow.Author.Rules.{rules}
-use Prim.Native.Nat.{◌-◌, ◌≤◌}
 use mathlib.Core.Path.{◌≡◌, refl, sym, ◌∙◌}
 use native.Mathlib.Omega.{arith}
-use lib.ListN.{length, drop}
+use lib.ListN.{length}
 use Rattle.externals_reader.proofs.turns.before_skip_offsets.Goals as goal
 
 pub loop-i-init : goal.loop-i-init

@@ -1,10 +1,7 @@
-use Rattle.externals_reader.proofs.Laws.{before_stop, before_next, before_end}
 use Rattle.reader_rules.specs.Rules.{before_skip_offsets}
-use borrow.Author.Rules.{rules}
 use Prim.Native.Nat.{◌-◌, ◌≤◌}
-use mathlib.Core.Path.{◌≡◌, refl, sym, ◌∙◌}
-use native.Mathlib.Omega.{arith}
-use lib.ListN.{length, drop}
+use mathlib.Core.Path.{◌≡◌}
+use lib.ListN.{drop}
 use Rattle.externals_reader.proofs.turns.before_skip_offsets.Given as goal
 
 abbrev pub invariant-loop-i : goal.invariant-loop-i

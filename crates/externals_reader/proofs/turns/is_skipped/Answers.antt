@@ -1,6 +1,4 @@
 use Rattle.externals_reader.proofs.Laws.{skipped_waits, skipped_by_offsets}
-use Prim.Native.Nat.{◌-◌}
-use borrow.Author.Rules.{rules}
 use Rattle.externals_reader.proofs.turns.is_skipped.Goals as goal
 
 pub returns-then-waits : goal.returns-then-waits

@@ -1,5 +1,4 @@
 use Rattle.reader_rules.specs.Rules.{mode_for}
-use Prim.Native.Nat.{◌-◌}
 use borrow.Author.Tests.{eq-eqb, ne_eqb}
 use Rattle.externals_reader.proofs.turns.mode_for.Goals as goal
 

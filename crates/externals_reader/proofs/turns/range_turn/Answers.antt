@@ -1,6 +1,4 @@
 use Rattle.externals_reader.proofs.TurnLaws.{range_written, range_told}
-use Prim.Native.Nat.{◌-◌}
-use borrow.Author.Rules.{rules}
 use Rattle.externals_reader.proofs.turns.range_turn.Goals as goal
 
 pub returns-then-write : goal.returns-then-write

@@ -1,9 +1,9 @@
-use Rattle.externals_reader.proofs.TurnLaws.{window_fits, Turning, turning_start, turning_next, turning_last, turning_length, turning_ready, turning_slot, left_some, next_room, next_ready, all_done, next_done, turn_length}
+use Rattle.externals_reader.proofs.TurnLaws.{window_fits, turning_start, turning_next, turning_last, turning_length, turning_ready, turning_slot, left_some, next_room, next_ready, all_done, next_done, turn_length}
 use Rattle.reader_rules.specs.State.{no_range, max_ranges}
 use Rattle.externals_reader.specs.Calls.{window_read}
 use Rattle.reader_rules.specs.Rules.{nothing_read, read_of}
 use borrow.Author.Rules.{rules}
-use Prim.Native.Nat.{ℕ, ◌+◌, ◌-◌, ◌<◌}
+use Prim.Native.Nat.{ℕ, ◌+◌, ◌<◌}
 use mathlib.Core.Path.{◌≡◌, refl, sym, ap, ◌∙◌}
 use native.Mathlib.Omega.{arith}
 use lib.ListN.{length, get_or, length-set}

@@ -1,9 +1,7 @@
 use Rattle.reader_rules.specs.Rules.{skip_offset_of}
 use lib.Dec.{leb}
 use Rattle.rows.proofs.Laws.{no_here, yes_here}
-use Prim.Native.Nat.{◌-◌}
 use borrow.Author.Tests.{not-true, not-false}
-use borrow.Author.Rules.{rules}
 use Rattle.externals_reader.proofs.turns.reached.Goals as goal
 
 pub returns-then-not-p : goal.returns-then-not-p

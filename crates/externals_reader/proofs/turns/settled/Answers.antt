@@ -1,7 +1,5 @@
 use Rattle.externals_reader.proofs.Laws.{settled_unread, settled_other, settled_own}
-use Prim.Native.Nat.{◌-◌}
 use borrow.Author.Tests.{not-true, not-false}
-use borrow.Author.Rules.{rules}
 use Rattle.externals_reader.proofs.turns.settled.Goals as goal
 
 pub returns-then-not-range : goal.returns-then-not-range

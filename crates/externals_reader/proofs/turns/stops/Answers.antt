@@ -1,6 +1,5 @@
 use Rattle.rows.proofs.Laws.{no_later, yes_later}
 use mathlib.Core.Bool.{not}
-use Prim.Native.Nat.{◌-◌}
 use mathlib.Core.Path.{ap}
 use lib.Dec.{eqb}
 use Rattle.externals_reader.proofs.turns.stops.Goals as goal

@@ -1,12 +1,8 @@
 use Rattle.reader_rules.specs.Each.{each}
-use Rattle.reader_rules.proofs.Each.{each_start, each_next, each_end}
 use lib.Seq.{sets}
-use Rattle.reader_rules.specs.Rules.{sums}
-use borrow.Author.Rules.{rules}
 use Prim.Native.Nat.{ℕ, ◌+◌, ◌-◌, ◌≤◌}
-use mathlib.Core.Path.{◌≡◌, refl}
-use native.Mathlib.Omega.{arith}
-use lib.ListN.{length, get_or}
+use mathlib.Core.Path.{◌≡◌}
+use lib.ListN.{get_or}
 use Rattle.externals_reader.proofs.turns.summed.Given as goal
 
 abbrev pub invariant-loop-i : goal.invariant-loop-i

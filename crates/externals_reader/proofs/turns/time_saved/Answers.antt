@@ -1,8 +1,6 @@
 use Rattle.reader_rules.specs.Rules.{time_saved}
 use Rattle.range_rules.specs.declared.LastChainTime.{LastChainTime}
-use Prim.Native.Nat.{◌-◌}
 use mathlib.Core.Path.{sym, ap}
-use borrow.Author.Rules.{rules}
 use Rattle.externals_reader.proofs.turns.time_saved.Goals as goal
 
 pub returns : goal.returns

@@ -1,6 +1,4 @@
 use Rattle.externals_reader.proofs.TurnLaws.{turn_passed, turn_skipped, turn_ready, turn_lent}
-use borrow.Author.Rules.{rules}
-use Prim.Native.Nat.{◌-◌}
 use mathlib.Core.Path.{sym, ◌∙◌}
 use Rattle.externals_reader.proofs.turns.turn.Goals as goal
 

@@ -1,4 +1,4 @@
-use Rattle.std.proofs.Common.{◌-◌, rules}
+use Rattle.std.proofs.Common.{◌-◌}
 use Rattle.extprobe.proofs.kinds.has_marks.Given as goal
 
 abbrev pub invariant-loop-at : goal.invariant-loop-at

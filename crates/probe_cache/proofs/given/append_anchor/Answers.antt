@@ -1,5 +1,5 @@
 use Rattle.anchors_cache.specs.Calls.{answer}
-use Rattle.std.proofs.Common.{refl, rules}
+use Rattle.std.proofs.Common.{refl}
 use Rattle.probe_cache.proofs.given.append_anchor.Goals as goal
 
 pub returns-then-t : goal.returns-then-t

@@ -1,5 +1,5 @@
 use Rattle.anchors_cache.specs.Calls.{answer}
-use Rattle.std.proofs.Common.{refl, rules, le-leb}
+use Rattle.std.proofs.Common.{refl, le-leb}
 use borrow.Author.Tests.{lt-leb}
 use Rattle.probe_cache.proofs.given.append_info.Goals as goal
 

@@ -1,4 +1,3 @@
-use Rattle.std.proofs.Common.{rules}
 use Rattle.probe_cache.proofs.given.used_by.Given as goal
 
 abbrev pub invariant-loop-left : goal.invariant-loop-left

@@ -1,4 +1,4 @@
-use Rattle.std.proofs.Common.{◌-◌, ◌≤◌, length, rules}
+use Rattle.std.proofs.Common.{◌-◌, ◌≤◌, length}
 use Rattle.probe_cache.proofs.shown.digest.Given as goal
 
 abbrev pub invariant-loop-i : goal.invariant-loop-i

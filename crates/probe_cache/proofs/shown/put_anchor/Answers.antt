@@ -1,5 +1,4 @@
 use Rattle.text.proofs.Laws.{puts_nothing}
-use Rattle.std.proofs.Common.{rules}
 use Rattle.probe_cache.proofs.shown.put_anchor.Goals as goal
 
 pub returns-in_default : goal.returns-in_default

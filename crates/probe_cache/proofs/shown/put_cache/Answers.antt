@@ -1,5 +1,4 @@
 use Rattle.text.proofs.Laws.{puts_on}
-use Rattle.std.proofs.Common.{rules}
 use Rattle.probe_cache.proofs.shown.put_cache.Goals as goal
 
 pub returns : goal.returns

@@ -1,6 +1,5 @@
 use Rattle.text.proofs.Laws.{puts_nothing, puts_on}
-use Rattle.text.specs.Shown.{Puts}
-use Rattle.std.proofs.Common.{◌≡◌, length, refl, rules}
+use Rattle.std.proofs.Common.{refl, rules}
 use Rattle.probe_cache.proofs.shown.put_history.Goals as goal
 
 pub loop-left-init : goal.loop-left-init

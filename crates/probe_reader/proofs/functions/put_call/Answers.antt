@@ -1,5 +1,4 @@
 use Rattle.text.proofs.Laws.{puts_nothing, puts_on}
-use borrow.Author.Rules.{rules}
 use Rattle.probe_reader.proofs.functions.put_call.Goals as goal
 
 pub returns-then-i-eq0 : goal.returns-then-i-eq0

@@ -1,5 +1,4 @@
 use Rattle.text.proofs.Laws.{puts_on}
-use borrow.Author.Rules.{rules}
 use Rattle.probe_reader.proofs.functions.put_listed.Goals as goal
 
 pub returns : goal.returns

@@ -1,5 +1,4 @@
 use Rattle.text.proofs.Laws.{puts_nothing}
-use borrow.Author.Rules.{rules}
 use Rattle.probe_reader.proofs.functions.put_part.Goals as goal
 
 pub returns-then-s-to : goal.returns-then-s-to

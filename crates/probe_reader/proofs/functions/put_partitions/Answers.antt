@@ -1,9 +1,6 @@
 use Rattle.text.proofs.Laws.{puts_nothing, puts_on}
-use Rattle.text.specs.Shown.{Puts}
 use borrow.Author.Rules.{rules}
-use Prim.Native.Nat.{◌-◌}
-use mathlib.Core.Path.{◌≡◌, refl}
-use lib.ListN.{length}
+use mathlib.Core.Path.{refl}
 use Rattle.probe_reader.proofs.functions.put_partitions.Goals as goal
 
 pub loop-i-init : goal.loop-i-init

@@ -1,7 +1,5 @@
 use Rattle.probe_reader.proofs.Laws.{same_rest}
-use borrow.Author.Rules.{rules}
-use Prim.Native.Nat.{◌-◌}
-use mathlib.Core.Path.{◌≡◌, refl}
+use mathlib.Core.Path.{refl}
 use Rattle.probe_reader.proofs.given.inserted.Goals as goal
 
 pub loop-i-init : goal.loop-i-init

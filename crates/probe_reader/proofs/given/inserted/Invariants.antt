@@ -1,7 +1,5 @@
-use Rattle.probe_reader.proofs.Laws.{same_rest}
-use borrow.Author.Rules.{rules}
 use Prim.Native.Nat.{◌-◌}
-use mathlib.Core.Path.{◌≡◌, refl}
+use mathlib.Core.Path.{◌≡◌}
 use Rattle.probe_reader.proofs.given.inserted.Given as goal
 
 abbrev pub invariant-loop-i : goal.invariant-loop-i

@@ -1,6 +1,5 @@
 use Rattle.probe_reader.specs.Given.{last_of}
 use borrow.Author.Tests.{eq-eqb, ne_eqb}
-use borrow.Author.Rules.{rules}
 use Rattle.probe_reader.proofs.given.last_of.Goals as goal
 
 pub returns-then-byte_at-eq1 : goal.returns-then-byte_at-eq1

@@ -1,7 +1,6 @@
 use Rattle.externals_reader.specs.Calls.{changed}
 use mathlib.Core.Path.{ap}
 use borrow.Author.Tests.{ne_eqb}
-use borrow.Author.Rules.{rules}
 use Rattle.probe_reader.proofs.given.put_range.Goals as goal
 
 pub returns-then-number-ne0 : goal.returns-then-number-ne0

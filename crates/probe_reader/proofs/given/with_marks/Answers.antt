@@ -1,4 +1,3 @@
-use borrow.Author.Rules.{rules}
 use Rattle.probe_reader.proofs.given.with_marks.Goals as goal
 
 pub returns : goal.returns

@@ -1,6 +1,5 @@
 use Rattle.reader_rules.specs.State.{with_state}
 use mathlib.Core.Path.{ap}
-use borrow.Author.Rules.{rules}
 use Rattle.probe_reader.proofs.given.with_range.Goals as goal
 
 pub returns : goal.returns

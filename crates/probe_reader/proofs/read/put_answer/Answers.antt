@@ -1,5 +1,4 @@
 use Rattle.text.proofs.Laws.{puts_nothing}
-use borrow.Author.Rules.{rules}
 use Rattle.probe_reader.proofs.read.put_answer.Goals as goal
 
 pub returns-then-r-ne0 : goal.returns-then-r-ne0

@@ -1,5 +1,4 @@
 use Rattle.text.proofs.Laws.{puts_nothing}
-use borrow.Author.Rules.{rules}
 use Rattle.probe_reader.proofs.read.put_count.Goals as goal
 
 pub returns-then-buffered-eq0 : goal.returns-then-buffered-eq0

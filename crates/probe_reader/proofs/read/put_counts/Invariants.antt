@@ -1,8 +1,6 @@
-use Rattle.text.proofs.Laws.{puts_nothing, puts_on}
 use Rattle.text.specs.Shown.{Puts}
-use borrow.Author.Rules.{rules}
 use Prim.Native.Nat.{◌-◌}
-use mathlib.Core.Path.{◌≡◌, refl}
+use mathlib.Core.Path.{◌≡◌}
 use lib.ListN.{length}
 use Rattle.probe_reader.proofs.read.put_counts.Given as goal
 

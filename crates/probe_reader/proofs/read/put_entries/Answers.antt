@@ -1,5 +1,4 @@
 use Rattle.text.proofs.Laws.{puts_nothing}
-use borrow.Author.Rules.{rules}
 use Rattle.probe_reader.proofs.read.put_entries.Goals as goal
 
 pub returns-then-output-used : goal.returns-then-output-used

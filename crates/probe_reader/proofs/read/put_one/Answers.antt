@@ -1,5 +1,4 @@
 use Rattle.text.proofs.Laws.{puts_on}
-use borrow.Author.Rules.{rules}
 use Rattle.probe_reader.proofs.read.put_one.Goals as goal
 
 pub returns : goal.returns

@@ -1,5 +1,4 @@
 use Rattle.text.proofs.Laws.{puts_nothing}
-use borrow.Author.Rules.{rules}
 use Rattle.probe_reader.proofs.shown.put_reader_partition.Goals as goal
 
 pub returns-then-not-p : goal.returns-then-not-p

@@ -1,4 +1,3 @@
-use borrow.Author.Rules.{rules}
 use Rattle.range_reader.proofs.anchors.after_pop.Goals as goal
 
 pub returns-then-whole : goal.returns-then-whole

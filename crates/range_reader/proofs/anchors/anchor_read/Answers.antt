@@ -6,7 +6,6 @@ use Rattle.range_reader.proofs.AnchorLaws.{anchor_popped, anchor_expired, anchor
 use Prim.Native.Nat.{◌-◌}
 use mathlib.Core.Path.{sym, ◌∙◌}
 use native.Mathlib.Omega.{arith}
-use borrow.Author.Rules.{rules}
 use Rattle.cache_rules.specs.Rules.{max_messages}
 use Rattle.range_reader.proofs.anchors.anchor_read.Goals as goal
 

@@ -1,11 +1,6 @@
-use Rattle.range_rules.specs.Rules.{anchors_read, silent}
-use Rattle.range_reader.proofs.AnchorLaws.{RangeTurn, range_start, range_none, range_ended, range_next, anchor_fits, front_some, front_none}
-use Rattle.anchors_cache.specs.Tables.{with_messages, anchors}
-use borrow.Author.Rules.{rules}
-use Prim.Native.Nat.{◌*◌}
+use Rattle.range_reader.proofs.AnchorLaws.{range_start, range_none, range_ended, range_next, anchor_fits, front_some, front_none}
 use mathlib.Core.Path.{sym, ◌∙◌}
 use native.Mathlib.Omega.{arith}
-use lib.ListN.{drop}
 use Rattle.range_reader.proofs.anchors.anchors_read.Goals as goal
 
 pub loop-a-init : goal.loop-a-init

@@ -1,12 +1,9 @@
 -- The invariant says that what is left to read comes to the whole read; each look that does not end it popped one
 -- anchor.
 use Rattle.range_rules.specs.Rules.{anchors_read, silent}
-use Rattle.range_reader.proofs.AnchorLaws.{RangeTurn, range_start, range_none, range_ended, range_next, anchor_fits, front_some, front_none}
+use Rattle.range_reader.proofs.AnchorLaws.{RangeTurn}
 use Rattle.anchors_cache.specs.Tables.{with_messages, anchors}
-use borrow.Author.Rules.{rules}
 use Prim.Native.Nat.{◌*◌}
-use mathlib.Core.Path.{sym, ◌∙◌}
-use native.Mathlib.Omega.{arith}
 use lib.ListN.{drop}
 use Rattle.range_reader.proofs.anchors.anchors_read.Given as goal
 

@@ -1,5 +1,4 @@
 use Rattle.range_rules.specs.Rules.{expired}
-use borrow.Author.Rules.{rules}
 use Rattle.range_reader.proofs.anchors.expired.Goals as goal
 
 pub returns : goal.returns

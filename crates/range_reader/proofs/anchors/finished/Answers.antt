@@ -2,7 +2,6 @@
 use Rattle.range_reader.proofs.AnchorLaws.{finish_refused, finish_end, finish_full, finish_next, finish_eleven}
 use mathlib.Core.Path.{sym, ◌∙◌}
 use borrow.Author.Tests.{eq-eqb, ne_eqb}
-use borrow.Author.Rules.{rules}
 use Rattle.range_reader.proofs.anchors.finished.Goals as goal
 
 pub returns-then-w-ne0 : goal.returns-then-w-ne0

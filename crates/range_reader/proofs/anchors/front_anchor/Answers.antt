@@ -4,7 +4,6 @@ use Rattle.anchors_cache.specs.Calls.{row_at}
 use native.Mathlib.Omega.{arith}
 use lib.ListN.{length}
 use borrow.Author.Tests.{lt-ltb, le-leb}
-use borrow.Author.Rules.{rules}
 use Rattle.cache_rules.specs.Rules.{max_anchors}
 use Rattle.anchors_cache.specs.Tables.{tables_bytes}
 use Rattle.range_reader.proofs.anchors.front_anchor.Goals as goal

@@ -3,11 +3,10 @@ use Rattle.rows.proofs.Laws.{and_true}
 use Rattle.anchors_cache.specs.Tables.{anchors_of}
 use Rattle.range_reader.proofs.AnchorLaws.{refused_run, checked_run, written_run, done_run}
 use Rattle.range_reader.proofs.RefusalLaws.{no_refusal_on_the_window}
-use Prim.Native.Nat.{◌-◌, ◌*◌}
+use Prim.Native.Nat.{◌*◌}
 use mathlib.Core.Path.{sym, ◌∙◌}
 use lib.ListN.{drop}
 use borrow.Author.Tests.{not-true, not-false}
-use borrow.Author.Rules.{rules}
 use Rattle.range_reader.proofs.anchors.read_or_refuse.Goals as goal
 
 pub writes_at_once-requires : goal.writes_at_once-requires

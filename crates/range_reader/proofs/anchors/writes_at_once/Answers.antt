@@ -1,5 +1,4 @@
 -- Only a read that writes can be written at once.
-use Prim.Native.Nat.{◌-◌}
 use mathlib.Core.Path.{sym, ◌∙◌}
 use borrow.Author.Tests.{not-true, not-false}
 use Rattle.range_reader.proofs.anchors.writes_at_once.Goals as goal

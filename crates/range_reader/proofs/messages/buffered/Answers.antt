@@ -1,6 +1,5 @@
 -- Of all buffers only the message's own has fewer places free.
 use Rattle.range_reader.specs.Locals.{taken}
-use borrow.Author.Rules.{rules}
 use Rattle.range_reader.proofs.messages.buffered.Goals as goal
 
 pub returns : goal.returns

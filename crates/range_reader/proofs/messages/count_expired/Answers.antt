@@ -1,8 +1,7 @@
-use lib.ListN.{length, length-set}
-use Rattle.range_reader.proofs.MessageLaws.{Counted, counted_next, expired_none, expired_other, expired_ours}
+use lib.ListN.{length-set}
+use Rattle.range_reader.proofs.MessageLaws.{counted_next, expired_none, expired_other, expired_ours}
 use borrow.Author.Rules.{rules}
-use Prim.Native.Nat.{◌-◌}
-use mathlib.Core.Path.{◌≡◌, refl, sym, ◌∙◌}
+use mathlib.Core.Path.{refl, sym, ◌∙◌}
 use native.Mathlib.Omega.{arith}
 use borrow.Author.Tests.{not-true, not-false}
 use Rattle.range_reader.proofs.messages.count_expired.Goals as goal

@@ -1,11 +1,7 @@
 -- The invariant says that the count of what is left comes to the whole count.
-use lib.ListN.{length, length-set}
-use Rattle.range_reader.proofs.MessageLaws.{Counted, counted_next, expired_none, expired_other, expired_ours}
-use borrow.Author.Rules.{rules}
-use Prim.Native.Nat.{◌-◌}
-use mathlib.Core.Path.{◌≡◌, refl, sym, ◌∙◌}
-use native.Mathlib.Omega.{arith}
-use borrow.Author.Tests.{not-true, not-false}
+use lib.ListN.{length}
+use Rattle.range_reader.proofs.MessageLaws.{Counted}
+use mathlib.Core.Path.{◌≡◌}
 use Rattle.range_reader.proofs.messages.count_expired.Given as goal
 
 abbrev pub invariant-loop-left : goal.invariant-loop-left

@@ -1,5 +1,4 @@
 use borrow.Author.Tests.{lt-ltb, le-ltb}
-use borrow.Author.Rules.{rules}
 use Rattle.range_reader.proofs.messages.end_reached.Goals as goal
 
 pub returns-then-end-key : goal.returns-then-end-key

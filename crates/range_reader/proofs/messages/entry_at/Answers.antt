@@ -1,4 +1,3 @@
-use borrow.Author.Rules.{rules}
 use Rattle.range_reader.proofs.messages.entry_at.Goals as goal
 
 pub returns : goal.returns

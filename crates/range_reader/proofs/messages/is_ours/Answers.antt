@@ -2,7 +2,6 @@
 use Rattle.shard_ident.specs.Shard.{is_ours, Answer, answer_of}
 use Rattle.shard_ident.proofs.Laws.{accepted}
 use mathlib.Core.Path.{sym, ap, ◌∙◌}
-use borrow.Author.Rules.{rules}
 use Rattle.range_reader.proofs.messages.is_ours.Goals as goal
 
 pub returns-in-Refused : goal.returns-in-Refused

@@ -2,7 +2,6 @@
 use Rattle.range_rules.specs.Rules.{judge}
 use mathlib.Core.Path.{sym, ◌∙◌}
 use borrow.Author.Tests.{not-true, not-false}
-use borrow.Author.Rules.{rules}
 use Rattle.range_reader.proofs.messages.judged.Goals as goal
 
 pub returns-then-not-processed : goal.returns-then-not-processed

@@ -1,9 +1,7 @@
-use Rattle.range_reader.proofs.LocalLaws.{LocalTurn, locals_within, locals_start, locals_end, locals_fit, locals_bytes, locals_near, locals_stopped, locals_counts, locals_other, locals_room, locals_ours, taken_once}
-use lib.ListN.{length-map, length}
+use Rattle.range_reader.proofs.LocalLaws.{locals_within, locals_start, locals_end, locals_fit, locals_bytes, locals_near, locals_stopped, locals_counts, locals_other, locals_room, locals_ours, taken_once}
+use lib.ListN.{length}
 use Rattle.range_reader.proofs.MessageLaws.{turn_stop}
 use Rattle.range_reader.specs.Locals.{walk_of}
-use borrow.Author.Rules.{rules}
-use Prim.Native.Nat.{◌-◌}
 use mathlib.Core.Path.{◌≡◌, sym, ◌∙◌}
 use native.Mathlib.Omega.{arith}
 use borrow.Author.Tests.{not-true, not-false}

@@ -1,14 +1,7 @@
 -- The invariant says that what is left to walk comes to the whole walk, with the entries written so far; the walk is
 -- what the locals stand for.
-use Rattle.range_reader.proofs.LocalLaws.{LocalTurn, locals_within, locals_start, locals_end, locals_fit, locals_bytes, locals_near, locals_stopped, locals_counts, locals_other, locals_room, locals_ours, taken_once}
-use lib.ListN.{length-map, length}
-use Rattle.range_reader.proofs.MessageLaws.{turn_stop}
-use Rattle.range_reader.specs.Locals.{walk_of}
-use borrow.Author.Rules.{rules}
+use Rattle.range_reader.proofs.LocalLaws.{LocalTurn}
 use Prim.Native.Nat.{◌-◌}
-use mathlib.Core.Path.{◌≡◌, sym, ◌∙◌}
-use native.Mathlib.Omega.{arith}
-use borrow.Author.Tests.{not-true, not-false}
 use Rattle.range_reader.proofs.messages.messages_read.Given as goal
 
 abbrev pub invariant-loop-offset : goal.invariant-loop-offset

@@ -4,10 +4,9 @@ use Rattle.range_reader.specs.Locals.{entries_of}
 use Rattle.range_rules.proofs.Counts.{judge_buffer}
 use Rattle.range_reader.proofs.LocalLaws.{our_taken, no_entry}
 use borrow.Author.Tests.{leb-true}
-use Prim.Native.Nat.{◌+◌, ◌-◌, ◌≤◌}
+use Prim.Native.Nat.{◌+◌, ◌≤◌}
 use mathlib.Core.Path.{refl, sym, ◌∙◌}
 use native.Mathlib.Omega.{arith}
-use borrow.Author.Rules.{rules}
 use Rattle.range_rules.specs.Rules.{entry_len}
 use Rattle.range_reader.proofs.messages.our_read.Goals as goal
 

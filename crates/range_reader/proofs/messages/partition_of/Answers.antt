@@ -1,6 +1,5 @@
 use Rattle.router.proofs.Laws.{a_partition_is_at_most_7}
 use native.Mathlib.Omega.{arith}
-use borrow.Author.Rules.{rules}
 use Rattle.range_reader.proofs.messages.partition_of.Goals as goal
 
 pub returns : goal.returns

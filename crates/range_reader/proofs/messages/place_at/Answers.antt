@@ -2,10 +2,8 @@
 use Rattle.range_reader.specs.Locals.{place_at}
 use Rattle.ext_types.specs.declared.ExternalKey.{ExternalKey}
 use Rattle.range_rules.specs.Rules.{moved_to}
-use Prim.Native.Nat.{◌-◌}
 use mathlib.Core.Path.{sym, ap, ◌∙◌}
 use borrow.Author.Tests.{eq-eqb, ne_eqb}
-use borrow.Author.Rules.{rules}
 use Rattle.range_reader.proofs.messages.place_at.Goals as goal
 
 pub returns-then-old-key : goal.returns-then-old-key

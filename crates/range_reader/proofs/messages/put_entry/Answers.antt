@@ -6,10 +6,6 @@ use lib.ListN.{length, take, drop, length-take, length-drop}
 use Rattle.range_reader.specs.Locals.{bytes_of}
 use Rattle.range_reader.proofs.EntryLaws.{entry_written, part_stored}
 use Rattle.range_rules.proofs.Counts.{length_entry}
-use borrow.Author.Rules.{rules}
-use Rattle.range_reader.proofs.messages.put_entry.Reads as reads
-use Rattle.range_reader.proofs.messages.put_entry.Lts as lts
-use Rattle.rows.proofs.put_le.Reads as put-le-reads
 use Rattle.range_rules.specs.Rules.{entry_len}
 use Rattle.range_reader.proofs.messages.put_entry.Goals as goal
 

@@ -1,5 +1,3 @@
-use Prim.Native.Nat.{◌-◌}
-use borrow.Author.Rules.{rules}
 use Rattle.range_reader.proofs.messages.put_if.Goals as goal
 
 pub returns-then-write : goal.returns-then-write

@@ -1,5 +1,4 @@
 use mathlib.Core.Path.{sym, ◌∙◌}
-use borrow.Author.Rules.{rules}
 use Rattle.range_reader.proofs.messages.raised.Goals as goal
 
 pub returns-then-key_above : goal.returns-then-key_above

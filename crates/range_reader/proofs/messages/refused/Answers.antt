@@ -1,5 +1,4 @@
 use Rattle.range_reader.specs.Locals.{taken}
-use Prim.Native.Nat.{◌-◌}
 use mathlib.Core.Path.{refl}
 use Rattle.range_reader.proofs.messages.refused.Goals as goal
 

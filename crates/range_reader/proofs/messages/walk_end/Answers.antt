@@ -1,6 +1,5 @@
 -- An arm for each mode.
 use mathlib.Core.Path.{sym, ap, ◌∙◌}
-use borrow.Author.Rules.{rules}
 use Rattle.range_rules.specs.declared.ReadNextExternalsMode.{ReadNextExternalsMode}
 use Rattle.range_rules.specs.WalkEnd.{walk_end}
 use Rattle.range_reader.proofs.messages.walk_end.Goals as goal

@@ -1,5 +1,3 @@
-use Prim.Native.Nat.{◌-◌}
-use borrow.Author.Rules.{rules}
 use Rattle.range_reader.proofs.messages.walk_of.Goals as goal
 
 pub returns : goal.returns

@@ -2,7 +2,6 @@
 use Rattle.range_reader.proofs.Numbers.{asked_1, asked_2, asked_3, asked_4, asked_5, asked_5b, asked_9, asked_10}
 use mathlib.Core.Path.{sym, ◌∙◌}
 use borrow.Author.Tests.{not-true, not-false}
-use borrow.Author.Rules.{rules}
 use Rattle.range_reader.proofs.questions.asked.Goals as goal
 
 pub returns-then-area-lt-AREA_BYTES : goal.returns-then-area-lt-AREA_BYTES

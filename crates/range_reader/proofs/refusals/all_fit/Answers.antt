@@ -1,6 +1,4 @@
-use Rattle.anchors_cache.specs.Tables.{anchors}
-use Rattle.range_reader.proofs.RefusalLaws.{FitTurn, fit_end, fit_sum, fit_stop, fit_next}
-use borrow.Author.Rules.{rules}
+use Rattle.range_reader.proofs.RefusalLaws.{fit_end, fit_sum, fit_stop, fit_next}
 use mathlib.Core.Path.{refl}
 use native.Mathlib.Omega.{arith}
 use Rattle.range_reader.proofs.refusals.all_fit.Goals as goal

@@ -1,9 +1,6 @@
 -- The sum stays within 1,024, so 26 bytes for each message fit a `usize`.
 use Rattle.anchors_cache.specs.Tables.{anchors}
-use Rattle.range_reader.proofs.RefusalLaws.{FitTurn, fit_end, fit_sum, fit_stop, fit_next}
-use borrow.Author.Rules.{rules}
-use mathlib.Core.Path.{refl}
-use native.Mathlib.Omega.{arith}
+use Rattle.range_reader.proofs.RefusalLaws.{FitTurn}
 use Rattle.range_reader.proofs.refusals.all_fit.Given as goal
 
 abbrev pub invariant-loop-left : goal.invariant-loop-left

@@ -1,5 +1,4 @@
-use Rattle.range_reader.proofs.RefusalLaws.{none_processed, none_in_range, both_there, OpenTurn, none_open, open_start, open_exists, open_stop, open_next, open_end}
-use borrow.Author.Rules.{rules}
+use Rattle.range_reader.proofs.RefusalLaws.{none_processed, none_in_range, both_there, none_open, open_start, open_exists, open_stop, open_next, open_end}
 use Prim.Native.Nat.{◌+◌}
 use mathlib.Core.Path.{sym}
 use native.Mathlib.Omega.{arith}

@@ -1,6 +1,5 @@
 use Rattle.anchors_cache.specs.Tables.{anchors_of}
 use Rattle.range_reader.proofs.RefusalLaws.{some_closed, all_decided}
-use borrow.Author.Rules.{rules}
 use Rattle.range_reader.proofs.refusals.cannot_refuse.Goals as goal
 
 pub returns-then-not-all_open : goal.returns-then-not-all_open

@@ -1,12 +1,8 @@
 -- The loop keeps that each partition passed meets the test.
-use Prim.Native.Nat.{ℕ, ◌-◌, ◌≤◌}
+use Prim.Native.Nat.{◌-◌, ◌≤◌}
 use mathlib.Core.Bool.{true}
-use mathlib.Core.Path.{◌≡◌, sym, ap, ◌∙◌}
-use native.Mathlib.Omega.{arith}
-use borrow.Author.Tests.{not-true, not-false}
-use borrow.Author.Rules.{rules}
+use mathlib.Core.Path.{◌≡◌}
 use Rattle.reader_rules.specs.Offsets.{all_below, meets, reader_partition, record_at}
-use Rattle.reader_offsets.proofs.Windows.{below_none, below_next, below_fail}
 use Rattle.reader_offsets.proofs.partitions.every_partition.Given as goal
 
 abbrev pub invariant-loop-i : goal.invariant-loop-i

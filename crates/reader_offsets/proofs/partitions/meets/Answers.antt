@@ -1,5 +1,4 @@
 -- Each arm is its case of the definition.
-use borrow.Author.Rules.{rules}
 use Rattle.reader_rules.specs.Offsets.{meets}
 use Rattle.reader_offsets.proofs.partitions.meets.Goals as goal
 

@@ -1,10 +1,9 @@
 -- Past the end nothing is stored.
 use mathlib.Core.List.{List}
-use mathlib.Core.Path.{◌≡◌, sym, ap, ◌∙◌}
+use mathlib.Core.Path.{◌≡◌, sym, ap}
 use native.Mathlib.Omega.{arith}
-use lib.ListN.{length, length-map}
+use lib.ListN.{length}
 use lib.Seq.{set_out}
-use borrow.Author.Rules.{rules}
 use Rattle.reader_rules.specs.State.{with_state}
 use Rattle.reader_rules.specs.declared.ExternalsPartitionReaderState.{ExternalsPartitionReaderState}
 use Rattle.reader_offsets.proofs.partitions.with_partition.Goals as goal

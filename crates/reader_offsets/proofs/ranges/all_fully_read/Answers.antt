@@ -1,12 +1,9 @@
-use Prim.Native.Nat.{◌+◌, ◌≤◌}
 use mathlib.Core.Path.{◌≡◌, refl, sym, ◌∙◌}
 use native.Mathlib.Omega.{arith}
 use lib.ListN.{length}
 use borrow.Author.Tests.{not-true, not-false}
 use borrow.Author.Rules.{rules}
-use Rattle.rows.specs.Rows.{part}
 use Rattle.range_rules.specs.declared.ExternalsRangeReaderState.{ExternalsRangeReaderState}
-use Rattle.reader_rules.specs.Offsets.{all_fully_read}
 use Rattle.reader_rules.specs.State.{no_range, max_ranges}
 use Rattle.reader_offsets.proofs.Windows.{every_fail, every_next, every_end}
 use Rattle.reader_offsets.proofs.ranges.all_fully_read.Goals as goal

@@ -1,16 +1,10 @@
 -- The loop keeps that the partitions passed are filled in.
-use Prim.Native.Nat.{ℕ, ◌-◌, ◌≤◌}
-use mathlib.Core.Bool.{Bool}
-use mathlib.Core.List.{List}
-use mathlib.Core.Path.{◌≡◌, refl, ap, ◌∙◌}
-use native.Mathlib.Omega.{arith}
+use Prim.Native.Nat.{◌-◌, ◌≤◌}
+use mathlib.Core.Path.{◌≡◌}
 use lib.Seq.{sets}
-use borrow.Author.Rules.{rules}
 use Rattle.rows.specs.Rows.{part}
 use Rattle.reader_rules.specs.Offsets.{tally_of, shown}
 use Rattle.reader_rules.specs.Each.{each}
-use Rattle.reader_rules.specs.declared.Tally.{Tally}
-use Rattle.reader_rules.proofs.Each.{each_start, each_next, each_end}
 use Rattle.reader_offsets.proofs.ranges.by_partitions.Given as goal
 
 abbrev pub invariant-loop-i : goal.invariant-loop-i

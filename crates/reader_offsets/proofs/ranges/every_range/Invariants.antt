@@ -1,14 +1,9 @@
 -- The loop keeps that the ranges left decide.
 use Prim.Native.Nat.{◌+◌, ◌≤◌}
-use mathlib.Core.Path.{◌≡◌, refl, sym, ◌∙◌}
-use native.Mathlib.Omega.{arith}
-use lib.ListN.{length}
-use borrow.Author.Tests.{not-true, not-false}
-use borrow.Author.Rules.{rules}
+use mathlib.Core.Path.{◌≡◌}
 use Rattle.rows.specs.Rows.{part}
-use Rattle.reader_rules.specs.Offsets.{range_meets, ranges_meet}
-use Rattle.reader_rules.specs.State.{no_range, max_ranges}
-use Rattle.reader_offsets.proofs.Windows.{every_fail, every_next, every_end}
+use Rattle.reader_rules.specs.Offsets.{ranges_meet}
+use Rattle.reader_rules.specs.State.{max_ranges}
 use Rattle.reader_offsets.proofs.ranges.every_range.Given as goal
 
 abbrev pub invariant-loop-left : goal.invariant-loop-left

@@ -1,7 +1,7 @@
 -- The slot before the end.
-use mathlib.Core.Path.{◌≡◌, sym, ◌∙◌}
+use mathlib.Core.Path.{◌≡◌, sym}
 use native.Mathlib.Omega.{arith}
-use lib.ListN.{length, length-map}
+use lib.ListN.{length}
 use borrow.Author.Rules.{rules}
 use Rattle.reader_offsets.proofs.Held.{held_last}
 use Rattle.reader_rules.specs.State.{max_ranges}

@@ -1,7 +1,6 @@
 -- A range at its end gets the mark.
 use mathlib.Core.Path.{sym, ◌∙◌}
 use borrow.Author.Tests.{not-true, not-false}
-use borrow.Author.Rules.{rules}
 use Rattle.reader_rules.proofs.Offsets.{finalize_leaves_a_range_that_is_not_at_its_end}
 use Rattle.reader_offsets.proofs.Records.{at_end}
 use Rattle.reader_offsets.proofs.ranges.marked.Goals as goal

@@ -1,13 +1,9 @@
 -- The loop keeps that the slots passed are marked.
-use Prim.Native.Nat.{ℕ, ◌-◌, ◌≤◌}
+use Prim.Native.Nat.{◌-◌, ◌≤◌}
 use mathlib.Core.List.{◌++◌, map}
-use mathlib.Core.Path.{◌≡◌, refl, ap, ◌∙◌}
-use native.Mathlib.Omega.{arith}
-use lib.ListN.{length, take, drop}
-use borrow.Author.Rules.{rules}
+use mathlib.Core.Path.{◌≡◌}
+use lib.ListN.{take, drop}
 use Rattle.reader_rules.specs.Offsets.{marked}
-use Rattle.reader_rules.specs.State.{no_range, max_ranges}
-use Rattle.reader_offsets.proofs.Held.{map_next}
 use Rattle.reader_offsets.proofs.ranges.marked_ranges.Given as goal
 
 abbrev pub invariant-loop-i : goal.invariant-loop-i

@@ -1,11 +1,8 @@
-use Prim.Native.Nat.{◌+◌, ◌≤◌}
 use mathlib.Core.Path.{◌≡◌, sym, ◌∙◌}
 use native.Mathlib.Omega.{arith}
 use lib.ListN.{length}
 use borrow.Author.Tests.{eq-eqb, ne_eqb}
 use borrow.Author.Rules.{rules}
-use Rattle.rows.specs.Rows.{part}
-use Rattle.reader_rules.specs.Offsets.{place_of}
 use Rattle.reader_offsets.proofs.Windows.{place_here, place_next, place_end}
 use Rattle.reader_rules.specs.State.{max_ranges}
 use Rattle.reader_offsets.proofs.ranges.place_of.Goals as goal

@@ -1,13 +1,11 @@
-use Prim.Native.Nat.{ℕ, ◌-◌, ◌≤◌}
+use Prim.Native.Nat.{ℕ}
 use mathlib.Core.List.{List}
-use mathlib.Core.Path.{◌≡◌, sym, ap, ◌∙◌}
+use mathlib.Core.Path.{◌≡◌, ap, ◌∙◌}
 use native.Mathlib.Omega.{arith}
-use lib.ListN.{length, length-map, take}
-use lib.Seq.{sets}
+use lib.ListN.{length, take}
 use borrow.Author.Rules.{rules}
 use Rattle.messages_buffer.specs.declared.ExternalsPartitionRangeReaderState.{ExternalsPartitionRangeReaderState}
-use Rattle.reader_rules.specs.Offsets.{reader_partition, record_at, record_of, tally_of, offset_raised, with_records}
-use Rattle.reader_rules.specs.Each.{each}
+use Rattle.reader_rules.specs.Offsets.{reader_partition, record_of, tally_of, offset_raised, with_records}
 use Rattle.reader_rules.specs.declared.Tally.{Tally}
 use Rattle.reader_rules.proofs.Each.{each_start, each_next, each_end}
 use Rattle.reader_offsets.proofs.ranges.raised_range.Goals as goal

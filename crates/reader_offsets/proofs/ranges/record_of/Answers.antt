@@ -1,7 +1,7 @@
 -- The slot, or past the end the default.
 use mathlib.Core.Path.{◌≡◌, sym, ap, ◌∙◌}
 use native.Mathlib.Omega.{arith}
-use lib.ListN.{length, length-map}
+use lib.ListN.{length}
 use borrow.Author.Rules.{rules}
 use Rattle.reader_rules.specs.Offsets.{record_of}
 use Rattle.reader_offsets.proofs.Held.{held_at, held_past}

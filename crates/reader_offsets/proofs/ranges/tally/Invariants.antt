@@ -1,13 +1,8 @@
 -- The loop keeps that the ranges left complete the tally.
-use Prim.Native.Nat.{◌+◌, ◌-◌, ◌*◌, ◌≤◌}
-use mathlib.Core.Path.{◌≡◌, refl, sym, ap, ◌∙◌}
-use native.Mathlib.Omega.{arith}
-use lib.ListN.{length}
-use borrow.Author.Rules.{rules}
+use Prim.Native.Nat.{◌+◌, ◌*◌, ◌≤◌}
+use mathlib.Core.Path.{◌≡◌}
 use Rattle.rows.specs.Rows.{part}
-use Rattle.reader_rules.specs.Offsets.{tallied, tally_from, no_tally}
-use Rattle.reader_rules.specs.declared.Tally.{Tally}
-use Rattle.reader_offsets.proofs.Windows.{tally_next, tally_end}
+use Rattle.reader_rules.specs.Offsets.{tally_from, no_tally}
 use Rattle.reader_rules.specs.State.{max_ranges}
 use Rattle.reader_offsets.proofs.ranges.tally.Given as goal
 

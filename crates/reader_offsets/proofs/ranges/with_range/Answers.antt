@@ -1,7 +1,7 @@
 -- One slot of the list changes.
-use mathlib.Core.Path.{◌≡◌, sym, ◌∙◌}
+use mathlib.Core.Path.{◌≡◌, ◌∙◌}
 use native.Mathlib.Omega.{arith}
-use lib.ListN.{length, length-map}
+use lib.ListN.{length}
 use borrow.Author.Rules.{rules}
 use Rattle.reader_offsets.proofs.Held.{held_set}
 use Rattle.reader_rules.specs.State.{max_ranges}

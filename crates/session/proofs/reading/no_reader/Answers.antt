@@ -1,5 +1,4 @@
 use Rattle.session_rules.specs.Steps.{no_reader}
-use borrow.Author.Rules.{rules}
 use Rattle.session.proofs.reading.no_reader.Goals as goal
 
 pub returns : goal.returns

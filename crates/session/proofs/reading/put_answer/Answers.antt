@@ -1,6 +1,5 @@
 use Rattle.text.specs.Shown.{Text}
 use Rattle.session.proofs.Laws.{show_both, show_written, show_all}
-use borrow.Author.Rules.{rules}
 use Rattle.session.proofs.reading.put_answer.Goals as goal
 
 pub returns-then-used-entries : goal.returns-then-used-entries

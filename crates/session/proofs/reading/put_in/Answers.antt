@@ -1,5 +1,4 @@
 use Rattle.session.proofs.Laws.{done_no, done_yes}
-use borrow.Author.Rules.{rules}
 use Rattle.session.proofs.reading.put_in.Goals as goal
 
 pub returns-then-done-ne0 : goal.returns-then-done-ne0

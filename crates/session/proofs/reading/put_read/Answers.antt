@@ -1,5 +1,4 @@
 use Rattle.session.proofs.Laws.{read_no, read_yes}
-use borrow.Author.Rules.{rules}
 use Rattle.session.proofs.reading.put_read.Goals as goal
 
 pub returns-then-number-ne0 : goal.returns-then-number-ne0

@@ -1,5 +1,4 @@
 use Rattle.session.proofs.Laws.{read_leaves}
-use borrow.Author.Rules.{rules}
 use Rattle.session.proofs.reading.read.Goals as goal
 
 pub returns : goal.returns

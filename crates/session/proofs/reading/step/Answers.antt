@@ -1,7 +1,6 @@
 use Rattle.session_rules.specs.Steps.{Lent}
 use Rattle.session.proofs.Laws.{shard_step, settings_step, routes_missing, read_step}
 use mathlib.Core.Path.{refl}
-use borrow.Author.Rules.{rules}
 use Rattle.session.proofs.reading.step.Goals as goal
 
 pub returns-then-kind-eq-SHARD : goal.returns-then-kind-eq-SHARD

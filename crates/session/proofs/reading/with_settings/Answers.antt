@@ -1,6 +1,5 @@
 use Rattle.session_rules.specs.Steps.{settings_done}
 use mathlib.Core.Path.{◌∙◌}
-use borrow.Author.Rules.{rules}
 use Rattle.session.proofs.reading.with_settings.Goals as goal
 
 pub returns : goal.returns

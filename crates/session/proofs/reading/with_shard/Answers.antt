@@ -1,5 +1,4 @@
 use Rattle.session_rules.specs.Steps.{shard_done}
-use borrow.Author.Rules.{rules}
 use Rattle.session.proofs.reading.with_shard.Goals as goal
 
 pub returns : goal.returns

@@ -2,7 +2,6 @@ use Rattle.session_state.proofs.Laws.{added}
 use Rattle.records.proofs.Laws.{rest_all, drop_all}
 use mathlib.Core.Path.{sym}
 use native.Mathlib.Omega.{arith}
-use borrow.Author.Rules.{rules}
 use Rattle.session_state.proofs.calls.add.Goals as goal
 
 pub returns-then-p-lt50 : goal.returns-then-p-lt50

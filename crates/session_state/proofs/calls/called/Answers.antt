@@ -1,6 +1,5 @@
 use Rattle.session_rules.specs.Said.{called}
 use borrow.Author.Tests.{ne_eqb}
-use borrow.Author.Rules.{rules}
 use Rattle.session_state.proofs.calls.called.Goals as goal
 
 pub returns-in-1 : goal.returns-in-1

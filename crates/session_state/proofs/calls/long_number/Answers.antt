@@ -3,7 +3,6 @@ use Rattle.session_state.proofs.Laws.{first_no_lem}
 use Rattle.messages_buffer.specs.Fullness.{first_no}
 use mathlib.Core.Path.{sym, ◌∙◌}
 use borrow.Author.Tests.{lt-ltb, le-ltb, eq-eqb, ne_eqb}
-use borrow.Author.Rules.{rules}
 use Rattle.session_state.proofs.calls.long_number.Goals as goal
 
 pub returns-then-number-lt3 : goal.returns-then-number-lt3

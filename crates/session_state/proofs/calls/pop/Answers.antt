@@ -1,6 +1,5 @@
 use Rattle.anchors_cache.specs.declared.Popped.{Popped}
 use mathlib.Core.Path.{ap}
-use borrow.Author.Rules.{rules}
 use Rattle.session_state.proofs.calls.pop.Goals as goal
 
 pub returns : goal.returns

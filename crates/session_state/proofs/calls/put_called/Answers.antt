@@ -1,7 +1,6 @@
 use Rattle.session_rules.specs.Said.{do_name}
 use mathlib.Core.Path.{sym, ◌∙◌}
 use borrow.Author.Tests.{ne_eqb}
-use borrow.Author.Rules.{rules}
 use Rattle.session_state.proofs.calls.put_called.Goals as goal
 
 pub returns-then-is_read : goal.returns-then-is_read

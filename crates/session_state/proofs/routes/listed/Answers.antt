@@ -1,5 +1,4 @@
 use Rattle.session_state.proofs.Laws.{listed_yes, listed_no}
-use borrow.Author.Rules.{rules}
 use Rattle.session_state.proofs.routes.listed.Goals as goal
 
 pub returns-then-number-eq0 : goal.returns-then-number-eq0

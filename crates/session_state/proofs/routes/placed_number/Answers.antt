@@ -1,5 +1,4 @@
 use Rattle.session_state.proofs.Laws.{placed_no, placed_yes, placed_within}
-use borrow.Author.Rules.{rules}
 use Rattle.session_state.proofs.routes.placed_number.Goals as goal
 
 pub returns-then-not-sum_within : goal.returns-then-not-sum_within

@@ -1,7 +1,6 @@
 use Rattle.session_rules.specs.Said.{route_number}
 use mathlib.Core.Path.{sym, ◌∙◌}
 use borrow.Author.Tests.{lt-ltb, le-ltb, le-leb, lt-leb}
-use borrow.Author.Rules.{rules}
 use Rattle.session_state.proofs.routes.route_number.Goals as goal
 
 pub returns-then-routes-ge-MAX_ROUTES : goal.returns-then-routes-ge-MAX_ROUTES
