@@ -2,12 +2,11 @@
 use Prim.Native.Nat.{ℕ, zero, suc, ◌+◌}
 use mathlib.Core.Path.{◌≡◌, refl, ap}
 use mathlib.Core.List.{List}
-use mathlib.Core.Option.{Option, none, some}
+use mathlib.Core.Option.{Option as Maybe, none, some}
 use native.Mathlib.Omega.{arith}
+use Rattle.std.specs.Prelude.{Some, None}
 use Rattle.anchors_cache.specs.declared.AnchorInfo.{AnchorInfo}
-use Rattle.anchors_cache.specs.declared.InfoAnswer.{InfoAnswer}
-use Rattle.anchors_cache.specs.declared.FoundInfo.TheVariants as info
-use Rattle.anchors_cache.specs.declared.FoundId.TheVariants as id
+use Rattle.anchors_cache.specs.Answers.{InfoAnswer}
 use Rattle.cache_rules.specs.Rules.{Info, Row, total}
 use Rattle.anchors_cache.specs.Calls.{shown_anchor, anchor_found, anchor_author, info_answer, id_answer, shown_info, anchor_info_of}
 
@@ -17,13 +16,13 @@ unfolding shown_anchor total
 front_shown base l = let e : base + 0 ≡ base = omega arith in (rw e, refl)
 
 -- id and chain time of the answered entry
-pub id_none : (k : ℕ) (o : Option Info) (a : InfoAnswer) → a ≡ info_answer k o → a.info ≡ info.Nothing → record { number = a.number; last = id.Nothing } ≡ id_answer k o
+pub id_none : (k : ℕ) (o : Maybe Info) (a : InfoAnswer) → a ≡ info_answer k o → a.info ≡ None → record { number = a.number; last = None } ≡ id_answer k o
 unfolding info_answer id_answer shown_info
 id_none zero none a e f = rw (ap (λ (x : InfoAnswer). x.number) e)
 id_none zero (some i) a e f = absurd (let g = ap (λ (x : InfoAnswer). x.info) e in let z : ◌≡◌ {A = ℕ} 0 1 = cc in omega arith)
 id_none (suc k) o a e f = rw (ap (λ (x : InfoAnswer). x.number) e)
 
-pub id_some : (k : ℕ) (o : Option Info) (a : InfoAnswer) (i : AnchorInfo) → a ≡ info_answer k o → a.info ≡ info.Info i → record { number = a.number; last = id.Id i.id i.ct } ≡ id_answer k o
+pub id_some : (k : ℕ) (o : Maybe Info) (a : InfoAnswer) (i : AnchorInfo) → a ≡ info_answer k o → a.info ≡ Some i → record { number = a.number; last = Some (i.id, i.ct) } ≡ id_answer k o
 unfolding info_answer id_answer shown_info
 id_some zero none a i e f = absurd (let g = ap (λ (x : InfoAnswer). x.info) e in let z : ◌≡◌ {A = ℕ} 0 1 = cc in omega arith)
 id_some zero (some j) a i e f =

@@ -1,7 +1,7 @@
 -- Laws of the questions: what the code's tests say of the definitions, and what a number 0 says of a window.
 use Prim.Native.Nat.{ℕ, zero, suc, ◌+◌, ◌-◌, ◌*◌, ◌/◌, ◌≤◌, ◌<◌}
 use mathlib.Core.Path.{◌≡◌, refl, sym, ap, ◌∙◌}
-use mathlib.Core.Bool.{Bool, true, false, not, ◌&&◌, ◌||◌}
+use mathlib.Core.Bool.{Bool, true, false, not, beq, ◌&&◌, ◌||◌}
 use mathlib.Core.List.{List, [], ◌∷◌}
 use native.Mathlib.Nat.{mul-div-le}
 use native.Mathlib.Omega.{arith}
@@ -11,8 +11,9 @@ use borrow.Author.Tests.{lt-ltb, lt-leb, leb-true, leb-false, ltb-true, eqb-true
 use Rattle.rows.specs.Rows.{pick}
 use Rattle.rows.proofs.Laws.{and_true}
 use Rattle.anchors_cache.specs.declared.AnchorsCache.{AnchorsCache}
+use Rattle.anchors_cache.specs.declared.CachedAnchor.{CachedAnchor}
 use Rattle.anchors_cache.specs.declared.AnchorsCacheTransaction.{AnchorsCacheTransaction}
-use Rattle.anchors_cache.specs.declared.Total.TheVariants.{Messages, Unsound}
+use Rattle.std.specs.Prelude.{Some, None}
 use Rattle.cache_rules.specs.Rules.{Row, sound_row, sound_from, total, last_of, above_last, same_bool, right_size, room, pending_up_to, ask, max_anchors, max_anchor_messages, max_messages, max_history, area_bytes}
 use Rattle.anchors_cache.specs.Tables.{tables_bytes, anchors, anchor_at, anchors_of}
 use Rattle.anchors_cache.specs.Windows.{used_by, Sound, Room, any_places}
@@ -20,57 +21,62 @@ use Rattle.anchors_cache.specs.Calls.{same_window, sound_total, sound_anchor, ca
 use Rattle.anchors_cache.proofs.Laws.{anchors_cons, anchors_none}
 
 -- ---- question 5 of the anchors, in one pass
-pub row_count : (low : ℕ) (a : Row) → sound_row low a ≡ true → a.count ≤ max_anchor_messages
+row_count : (low : ℕ) (a : Row) → sound_row low a ≡ true → a.count ≤ max_anchor_messages
 unfolding sound_row
 row_count low a e =
     let p1 = and_true (leb low a.id) (ltb 0 a.ours && (leb a.ours a.count && leb a.count max_anchor_messages)) e in
     let p2 = and_true (ltb 0 a.ours) (leb a.ours a.count && leb a.count max_anchor_messages) p1.1 in
     leb-true _ _ (and_true (leb a.ours a.count) (leb a.count max_anchor_messages) p2.1).1
 
-pub row_sound : (low place : ℕ) (a : Row) → sound_anchor low (cached_anchor place a) ≡ sound_row low a
+row_sound : (low place : ℕ) (a : Row) → sound_anchor low (cached_anchor place a) ≡ sound_row low a
 unfolding sound_row
 row_sound low place a = refl
 
+-- a turn of the loop over the anchors, of which the code holds the next one as a struct, and the loop's end
 module _ (first k low sum : ℕ) (l : List ℕ) where
   sound_step : 0 < k → sound_total low sum (anchors first k l)
-      ≡ pick (sound_row low (anchor_at first l)) (sound_total ((anchor_at first l).id + 1) (sum + (anchor_at first l).count) (anchors (first + 1) (k - 1) l)) Unsound
+      ≡ pick (sound_row low (anchor_at first l)) (sound_total ((anchor_at first l).id + 1) (sum + (anchor_at first l).count) (anchors (first + 1) (k - 1) l)) None
   unfolding sound_total
   sound_step p = rw (anchors_cons first k l p)
 
-  pub sound_next : 0 < k → sound_row low (anchor_at first l) ≡ true → sound_total low sum (anchors first k l) ≡ sound_total ((anchor_at first l).id + 1) (sum + (anchor_at first l).count) (anchors (first + 1) (k - 1) l)
-  sound_next p e = sound_step p ∙ rw e
+  module _ (a : CachedAnchor) (is : a ≡ cached_anchor 0 (anchor_at first l)) (some : 0 < k) where
+    same_row : sound_row low (anchor_at first l) ≡ sound_anchor low a
+    same_row = sym (ap (sound_anchor low) is ∙ row_sound low 0 (anchor_at first l))
 
-  pub sound_stop : 0 < k → sound_row low (anchor_at first l) ≡ false → sound_total low sum (anchors first k l) ≡ Unsound
-  sound_stop p e = sound_step p ∙ rw e
+    pub sound_next : sound_anchor low a ≡ true → (sound_total low sum (anchors first k l) ≡ sound_total (a.id + 1) (sum + a.count) (anchors (first + 1) (k - 1) l)) × (a.count ≤ max_anchor_messages)
+    sound_next e = rw is (sound_step some ∙ rw (same_row ∙ e), row_count low (anchor_at first l) (same_row ∙ e))
 
-  pub sound_end : k ≤ 0 → sound_total low sum (anchors first k l) ≡ Messages sum
+    pub sound_stop : sound_anchor low a ≡ false → sound_total low sum (anchors first k l) ≡ None
+    sound_stop e = sound_step some ∙ rw (same_row ∙ e)
+
+  pub sound_end : k ≤ 0 → sound_total low sum (anchors first k l) ≡ Some sum
   unfolding sound_total
   sound_end p = rw (anchors_none first k l p)
 
 -- the pass answers the rule's test and sum
-pub sound_total_lem : (low sum : ℕ) (l : List Row) → sound_total low sum l ≡ pick (sound_from low l) (Messages (sum + total l)) Unsound
+pub sound_total_lem : (low sum : ℕ) (l : List Row) → sound_total low sum l ≡ pick (sound_from low l) (Some (sum + total l)) None
 unfolding sound_total sound_from total
 sound_total_lem low sum [] = let e : sum + 0 ≡ sum = omega arith in rw e
 sound_total_lem low sum (a ∷ l) =
     let e : sum + a.count + total l ≡ sum + (a.count + total l) = omega arith in
     go (sound_row low a) (sound_total_lem (a.id + 1) (sum + a.count) l ∙ rw e)
   where
-    go : (b : Bool) → sound_total (a.id + 1) (sum + a.count) l ≡ pick (sound_from (a.id + 1) l) (Messages (sum + (a.count + total l))) Unsound
-        → pick b (sound_total (a.id + 1) (sum + a.count) l) Unsound ≡ pick (b && sound_from (a.id + 1) l) (Messages (sum + (a.count + total l))) Unsound
+    go : (b : Bool) → sound_total (a.id + 1) (sum + a.count) l ≡ pick (sound_from (a.id + 1) l) (Some (sum + (a.count + total l))) None
+        → pick b (sound_total (a.id + 1) (sum + a.count) l) None ≡ pick (b && sound_from (a.id + 1) l) (Some (sum + (a.count + total l))) None
     go true q = q
     go false q = refl
 
-pub all_sound : (l : List Row) (s : ℕ) → sound_total 0 0 l ≡ Messages s → (sound_from 0 l ≡ true) × (total l ≡ s)
+pub all_sound : (l : List Row) (s : ℕ) → sound_total 0 0 l ≡ Some s → (sound_from 0 l ≡ true) × (total l ≡ s)
 all_sound l s e = go (sound_from 0 l) refl (sym (sound_total_lem 0 0 l) ∙ e)
   where
-    go : (b : Bool) → sound_from 0 l ≡ b → pick b (Messages (0 + total l)) Unsound ≡ Messages s → (sound_from 0 l ≡ true) × (total l ≡ s)
+    go : (b : Bool) → sound_from 0 l ≡ b → pick b (Some (0 + total l)) None ≡ Some s → (sound_from 0 l ≡ true) × (total l ≡ s)
     go true h q = let z : 0 + total l ≡ s = cc in (h, omega arith)
     go false h q = absurd (let z : ◌≡◌ {A = ℕ} 0 1 = cc in omega arith)
 
-pub not_sound : (l : List Row) → sound_total 0 0 l ≡ Unsound → sound_from 0 l ≡ false
+pub not_sound : (l : List Row) → sound_total 0 0 l ≡ None → sound_from 0 l ≡ false
 not_sound l e = go (sound_from 0 l) refl (sym (sound_total_lem 0 0 l) ∙ e)
   where
-    go : (b : Bool) → sound_from 0 l ≡ b → pick b (Messages (0 + total l)) Unsound ≡ Unsound → sound_from 0 l ≡ false
+    go : (b : Bool) → sound_from 0 l ≡ b → pick b (Some (0 + total l)) None ≡ None → sound_from 0 l ≡ false
     go true h q = absurd (let z : ◌≡◌ {A = ℕ} 0 1 = cc in omega arith)
     go false h q = h
 
@@ -103,6 +109,13 @@ parts places tables c e =
       pend = p6.1;
     }
 
+-- the tests of two marks
+pub same_beq : (a b : Bool) → same_bool a b ≡ beq a b
+same_beq true true = refl
+same_beq true false = refl
+same_beq false true = refl
+same_beq false false = refl
+
 -- ---- the transaction's window, and what its rollback restores
 pub same_pending : (a b : Bool) → same_bool a b ≡ true → a ≡ b
 same_pending true b e = sym e
@@ -130,6 +143,13 @@ same_window_lem a b e =
         ∙ (ap (λ (v : ℕ). window b.first b.len b.history_first v a.base a.pending) hl
         ∙ (ap (λ (v : ℕ). window b.first b.len b.history_first b.history_len v a.pending) n
         ∙ ap (window b.first b.len b.history_first b.history_len b.base) p))))
+
+-- the derived test of two windows is the rule's
+pub equal_window : (a b : AnchorsCache)
+    → (eqb a.first b.first && (eqb a.len b.len && (eqb a.history_first b.history_first && (eqb a.history_len b.history_len && (eqb a.base b.base && beq a.pending b.pending))))) ≡ true
+    → a ≡ b
+unfolding same_window
+equal_window a b e = same_window_lem a b (rw (same_beq a.pending b.pending) e)
 
 module _ (places : ℕ) (tables : List ℕ) (t : AnchorsCacheTransaction) where
   pub valid_not : valid_cache places tables t.cache ≡ false → valid places tables t ≡ false

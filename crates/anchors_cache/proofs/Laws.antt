@@ -11,7 +11,7 @@ use lib.Dec.{ltb}
 use lib.ListN.{length, take, drop, replicate, length-map, length-append}
 use lib.Seq.{drop-drop, sets, length-sets}
 use borrow.Author.Tests.{lt-ltb, le-ltb}
-use Rattle.rows.specs.Rows.{pick, part, le, word, rows, num_at, written, stays, appended, append_answer, appended_if_fits}
+use Rattle.rows.specs.Rows.{pick, part, le, word, rows, num_at, written, stays, appended, append_answer, appended_if_fits, placed_at}
 use Rattle.rows.proofs.Laws.{rows_cons, rows_back, rows_length, rows_drop, rows_take, part_length, sets_append, length_le, sets_all, num_in, written_in, append_some, appended_some, fits_yes}
 use Rattle.rows.specs.declared.Appended.{Appended}
 use Rattle.rows.specs.declared.Appended.TheVariants.{Behind, Moved}
@@ -21,7 +21,6 @@ use Rattle.cache_rules.proofs.Lists.{trim_prefix, stale_le, trim_le, history_sno
 use Rattle.cache_rules.specs.Rules.{row_of, Info, Row, drop_stale, trim_back, trim_history, last_of, total, author_bytes}
 use Rattle.anchors_cache.specs.Tables.{with_messages, history_bytes, anchor_row, info_row, anchor_of, info_of, anchors, infos, anchor_at, info_at}
 use Rattle.anchors_cache.specs.Windows.{row_time, popped_by, popped_cache, popped_times, Lies}
-use Rattle.anchors_cache.specs.Calls.{placed_at}
 
 -- ---- maps over rows
 pub map_append : {A B : Type 0} (f : A → B) (a b : List A) → map f (a ++ b) ≡ map f a ++ map f b
@@ -150,10 +149,10 @@ module _ (first k ct : ℕ) (l : List ℕ) where
   pub stale_more : 1 < k → (info_at first l).time < ct → drop_stale ct (infos first k l) ≡ drop_stale ct (infos (first + 1) (k - 1) l)
   stale_more p q = stale_step p ∙ rw (lt-ltb _ _ q)
 
-  pub stale_stop : 1 < k → ct ≤ (info_at first l).time → drop_stale ct (infos first k l) ≡ infos first k l
-  stale_stop p q = stale_step p ∙ rw (le-ltb _ _ q)
+  pub stale_stop : 1 < k → ct ≤ (info_at first l).time → length (drop_stale ct (infos first k l)) ≡ k
+  stale_stop p q = ap length (stale_step p ∙ rw (le-ltb _ _ q)) ∙ infos_length first k l
 
-pub stale_few : (first k ct : ℕ) (l : List ℕ) → k ≤ 1 → drop_stale ct (infos first k l) ≡ infos first k l
+pub stale_few : (first k ct : ℕ) (l : List ℕ) → k ≤ 1 → length (drop_stale ct (infos first k l)) ≡ k
 unfolding drop_stale infos rows
 stale_few first zero ct l p = refl
 stale_few first (suc zero) ct l p = refl
@@ -181,6 +180,10 @@ pub popped_lies : (tables : List ℕ) (c : AnchorsCache) → Lies tables c → L
 popped_lies tables c p =
     ⊎_elim (λ (e : c.len ≡ 0). subst (Lies tables) (sym (popped_empty tables c (omega arith))) p) (λ (q : 0 < c.len). popped_lies_some tables c q p) (eq-zero-or-pos c.len)
 
+pub popped_len : (tables : List ℕ) (c : AnchorsCache) → 0 < c.len → (popped_cache tables c).len ≡ c.len - 1
+unfolding popped_cache
+popped_len tables c nonempty = rw (anchors_cons c.first c.len tables nonempty)
+
 pub times_more : (n : ℕ) (tables : List ℕ) (c : AnchorsCache) → 0 < n → popped_times n tables c ≡ popped_times (n - 1) tables (popped_cache tables c)
 unfolding popped_times
 times_more zero tables c p = absurd (omega arith)
@@ -204,10 +207,10 @@ module _ (ct first k : ℕ) (l : List ℕ) where
   pub kept_more : 0 < k → ct < (anchor_at (first + (k - 1)) l).time → trim_back row_time ct (anchors first k l) ≡ trim_back row_time ct (anchors first (k - 1) l)
   kept_more p q = kept_step p ∙ rw (lt-ltb _ _ q)
 
-  pub kept_stop : 0 < k → (anchor_at (first + (k - 1)) l).time ≤ ct → trim_back row_time ct (anchors first k l) ≡ anchors first k l
-  kept_stop p q = kept_step p ∙ rw (le-ltb _ _ q)
+  pub kept_stop : 0 < k → (anchor_at (first + (k - 1)) l).time ≤ ct → length (trim_back row_time ct (anchors first k l)) ≡ k
+  kept_stop p q = ap length (kept_step p ∙ rw (le-ltb _ _ q)) ∙ anchors_length first k l
 
-pub kept_none : (ct first k : ℕ) (l : List ℕ) → k ≤ 0 → trim_back row_time ct (anchors first k l) ≡ anchors first k l
+pub kept_none : (ct first k : ℕ) (l : List ℕ) → k ≤ 0 → length (trim_back row_time ct (anchors first k l)) ≡ 0
 unfolding trim_back
 kept_none ct first k l p = rw (anchors_none first k l p)
 
@@ -225,10 +228,10 @@ module _ (ct : ℕ) where
     pub history_more : 1 < k → ct < (info_at (first + (k - 1)) l).time → trim_history ct (infos first k l) ≡ trim_history ct (infos first (k - 1) l)
     history_more p q = history_step p ∙ rw (lt-ltb _ _ q)
 
-    pub history_stop : 1 < k → (info_at (first + (k - 1)) l).time ≤ ct → trim_history ct (infos first k l) ≡ infos first k l
-    history_stop p q = history_step p ∙ rw (le-ltb _ _ q)
+    pub history_stop : 1 < k → (info_at (first + (k - 1)) l).time ≤ ct → length (trim_history ct (infos first k l)) ≡ k
+    history_stop p q = ap length (history_step p ∙ rw (le-ltb _ _ q)) ∙ infos_length first k l
 
-  pub history_few : (first k : ℕ) (l : List ℕ) → k ≤ 1 → trim_history ct (infos first k l) ≡ infos first k l
+  pub history_few : (first k : ℕ) (l : List ℕ) → k ≤ 1 → length (trim_history ct (infos first k l)) ≡ k
   unfolding trim_history trim_back infos rows
   history_few first zero l p = refl
   history_few first (suc zero) l p = refl

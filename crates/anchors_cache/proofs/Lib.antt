@@ -2,3 +2,4 @@ pub mod Laws
 pub mod Asked
 pub mod Adding
 pub mod Answers
+pub mod Refused

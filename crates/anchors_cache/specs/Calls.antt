@@ -1,10 +1,9 @@
 -- The questions of the cache's calls, and what each call answers, for every argument. n is the length of the message
 -- area.
 use Rattle.std.specs.Prelude.{ℕ, zero, suc, ◌+◌, ◌/◌, Bool, true, false, not, ◌&&◌, List, [], ◌∷◌, ltb, leb, eqb, length, take, drop, replicate}
-use Rattle.std.proofs.Math.Option.{Option, none, some}
+use Rattle.std.specs.Prelude.{Option, Some, None}
+use Rattle.std.proofs.Math.Option.{Option as Maybe, none, some}
 use Rattle.rows.specs.Rows.{pick}
-use Rattle.rows.specs.declared.Appended.{Appended}
-use Rattle.rows.specs.declared.Appended.TheVariants.{Behind, Moved, NoRoom}
 use Rattle.ext_types.specs.declared.ChainTime.{ChainTime}
 use Rattle.ext_types.specs.declared.ExternalKey.{ExternalKey}
 use Rattle.anchors_cache.specs.declared.AnchorsCache.{AnchorsCache}
@@ -12,21 +11,7 @@ use Rattle.anchors_cache.specs.declared.AnchorsCacheTransaction.{AnchorsCacheTra
 use Rattle.anchors_cache.specs.declared.MempoolAnchor.{MempoolAnchor}
 use Rattle.anchors_cache.specs.declared.CachedAnchor.{CachedAnchor}
 use Rattle.anchors_cache.specs.declared.AnchorInfo.{AnchorInfo}
-use Rattle.anchors_cache.specs.declared.Done.{Done}
-use Rattle.anchors_cache.specs.declared.Popped.{Popped}
-use Rattle.anchors_cache.specs.declared.Trimmed.{Trimmed}
-use Rattle.anchors_cache.specs.declared.AnchorAnswer.{AnchorAnswer}
-use Rattle.anchors_cache.specs.declared.InfoAnswer.{InfoAnswer}
-use Rattle.anchors_cache.specs.declared.IdAnswer.{IdAnswer}
-use Rattle.anchors_cache.specs.declared.FlagAnswer.{FlagAnswer}
-use Rattle.anchors_cache.specs.declared.FoundAnchor.{FoundAnchor}
-use Rattle.anchors_cache.specs.declared.FoundInfo.{FoundInfo}
-use Rattle.anchors_cache.specs.declared.FoundId.{FoundId}
-use Rattle.anchors_cache.specs.declared.Total.{Total}
-use Rattle.anchors_cache.specs.declared.Total.TheVariants.{Messages, Unsound}
-use Rattle.anchors_cache.specs.declared.FoundAnchor.TheVariants as anchor
-use Rattle.anchors_cache.specs.declared.FoundInfo.TheVariants as info
-use Rattle.anchors_cache.specs.declared.FoundId.TheVariants as id
+use Rattle.anchors_cache.specs.Answers.{Done, Popped, Trimmed, AnchorAnswer, InfoAnswer, IdAnswer, FlagAnswer, no_author}
 use Rattle.cache_rules.specs.Rules.{Info, Row, last_of, info_at_ct, sound_row, sound_from, total, same_bool, pending_up_to, right_size, above_last, room, ask, max_anchors, max_anchor_messages, max_history, max_messages, author_bytes, area_bytes}
 use Rattle.anchors_cache.specs.Tables.{tables_bytes, anchors_of, history_of, anchor_at, info_at}
 use Rattle.anchors_cache.specs.Windows.{popped_cache, popped_times, trimmed_cache, no_cache, in_history, added_cache, used_by, any_places}
@@ -37,9 +22,9 @@ abbrev pub sound_anchor : ℕ → CachedAnchor → Bool
 sound_anchor low a = leb low a.id && (ltb 0 a.ours && (leb a.ours a.count && leb a.count max_anchor_messages))
 
 -- the messages of sound anchors, counted on from sum
-unfoldable pub sound_total : ℕ → ℕ → List Row → Total
-sound_total low sum [] = Messages sum
-sound_total low sum (a ∷ l) = pick (sound_row low a) (sound_total (a.id + 1) (sum + a.count) l) Unsound
+unfoldable pub sound_total : ℕ → ℕ → List Row → Option ℕ
+sound_total low sum [] = Some sum
+sound_total low sum (a ∷ l) = pick (sound_row low a) (sound_total (a.id + 1) (sum + a.count) l) None
 
 -- how many messages an area of n bytes holds
 abbrev pub places_in : ℕ → ℕ
@@ -88,9 +73,6 @@ abbrev pub with_cache : AnchorsCacheTransaction → AnchorsCache → AnchorsCach
 with_cache t c = record { cache = c; undo = t.undo; active = t.active; committed = t.committed }
 
 -- ---- values of the answers
-abbrev pub no_author : List ℕ
-no_author = replicate author_bytes 0
-
 abbrev pub time_of : ℕ → ChainTime
 time_of t = record { 0 = t }
 
@@ -106,9 +88,9 @@ unfoldable pub row_at : ℕ → ℕ → List ℕ → CachedAnchor
 row_at i place tables = pick (ltb i max_anchors && leb tables_bytes (length tables)) (cached_anchor place (anchor_at i tables)) (cached_anchor place no_row)
 
 -- the first of a list of anchors, or none
-abbrev pub anchor_found : ℕ → List Row → FoundAnchor
-anchor_found place [] = anchor.Nothing
-anchor_found place (a ∷ l) = anchor.Anchor (cached_anchor place a)
+abbrev pub anchor_found : ℕ → List Row → Option CachedAnchor
+anchor_found place [] = None
+anchor_found place (a ∷ l) = Some (cached_anchor place a)
 
 abbrev pub anchor_author : List Row → List ℕ
 anchor_author [] = no_author
@@ -128,32 +110,26 @@ no_info = record { id = 0; time = 0; all = 0; ours = 0; author = [] }
 unfoldable pub info_row_at : ℕ → List ℕ → AnchorInfo
 info_row_at i tables = pick (ltb i max_history && leb tables_bytes (length tables)) (anchor_info_of (info_at i tables)) (anchor_info_of no_info)
 
-abbrev pub info_found : Option Info → FoundInfo
-info_found none = info.Nothing
-info_found (some i) = info.Info (anchor_info_of i)
+abbrev pub info_found : Maybe Info → Option AnchorInfo
+info_found none = None
+info_found (some i) = Some (anchor_info_of i)
 
-abbrev pub info_author : Option Info → List ℕ
+abbrev pub info_author : Maybe Info → List ℕ
 info_author none = no_author
 info_author (some i) = i.author
 
-abbrev pub id_found : Option Info → FoundId
-id_found none = id.Nothing
-id_found (some i) = id.Id i.id (time_of i.time)
+abbrev pub id_found : Maybe Info → Option (ℕ × ChainTime)
+id_found none = None
+id_found (some i) = Some (i.id, time_of i.time)
 
 -- the anchor at an index, and the last entry of a history, as the calls answer them where nothing is refused
 unfoldable pub shown_anchor : ℕ → ℕ → List Row → AnchorAnswer
 shown_anchor i base l = record { number = 0; anchor = anchor_found (base + total (take i l)) (drop i l); author = anchor_author (drop i l) }
 
-unfoldable pub shown_info : Option Info → InfoAnswer
+unfoldable pub shown_info : Maybe Info → InfoAnswer
 shown_info o = record { number = 0; info = info_found o; author = info_author o }
 
 -- ---- add
--- where a window starts after an append
-abbrev pub placed_at : Appended → ℕ → ℕ
-placed_at Behind first = first
-placed_at Moved first = 0
-placed_at NoRoom first = first
-
 abbrev pub row_for : MempoolAnchor → ℕ → ℕ → Row
 row_for a ours k = record { id = a.id; time = a.chain_time.0; author = a.author; ours = ours; count = k / 33 }
 
@@ -188,7 +164,7 @@ pop_answer number tables t =
       author = anchor_author (anchors_of tables t.cache);
       state = with_cache t (popped_cache tables t.cache);
     })
-    (record { number = number; front = anchor.Nothing; author = no_author; state = t })
+    (record { number = number; front = None; author = no_author; state = t })
 
 unfoldable pub pop_call : ℕ → List ℕ → AnchorsCacheTransaction → Popped
 pop_call n tables t = pop_answer (refusal n tables t) tables t
@@ -207,7 +183,7 @@ trim_answer number tables t c =
       author = info_author (last_of (history_of tables c));
       state = with_cache t c;
     })
-    (record { number = number; last = info.Nothing; author = no_author; state = t })
+    (record { number = number; last = None; author = no_author; state = t })
 
 unfoldable pub trim_call : ℕ → ℕ → List ℕ → AnchorsCacheTransaction → Trimmed
 trim_call n ct tables t = trim_answer (refusal n tables t) tables t (trimmed_cache ct tables t.cache)
@@ -236,8 +212,8 @@ close_call n tables t = answer (refusal_at true n tables t) t (record { cache = 
 unfoldable pub refusal_seen : List ℕ → AnchorsCacheTransaction → ℕ
 refusal_seen tables t = ask 5 (valid any_places tables t) 0
 
-unfoldable pub info_answer : ℕ → Option Info → InfoAnswer
-info_answer number o = on_zero number (shown_info o) (record { number = number; info = info.Nothing; author = no_author })
+unfoldable pub info_answer : ℕ → Maybe Info → InfoAnswer
+info_answer number o = on_zero number (shown_info o) (record { number = number; info = None; author = no_author })
 
 unfoldable pub last_info_call : List ℕ → AnchorsCacheTransaction → InfoAnswer
 last_info_call tables t = info_answer (refusal_seen tables t) (last_of (history_of tables t.cache))
@@ -245,14 +221,14 @@ last_info_call tables t = info_answer (refusal_seen tables t) (last_of (history_
 unfoldable pub info_at_ct_call : ℕ → List ℕ → AnchorsCacheTransaction → InfoAnswer
 info_at_ct_call ct tables t = info_answer (refusal_seen tables t) (info_at_ct ct (history_of tables t.cache))
 
-unfoldable pub id_answer : ℕ → Option Info → IdAnswer
-id_answer number o = on_zero number (record { number = 0; last = id_found o }) (record { number = number; last = id.Nothing })
+unfoldable pub id_answer : ℕ → Maybe Info → IdAnswer
+id_answer number o = on_zero number (record { number = 0; last = id_found o }) (record { number = number; last = None })
 
 unfoldable pub last_id_call : List ℕ → AnchorsCacheTransaction → IdAnswer
 last_id_call tables t = id_answer (refusal_seen tables t) (last_of (history_of tables t.cache))
 
 unfoldable pub get_answer : ℕ → ℕ → ℕ → List Row → AnchorAnswer
-get_answer number i base l = on_zero number (shown_anchor i base l) (record { number = number; anchor = anchor.Nothing; author = no_author })
+get_answer number i base l = on_zero number (shown_anchor i base l) (record { number = number; anchor = None; author = no_author })
 
 unfoldable pub get_call : ℕ → List ℕ → AnchorsCacheTransaction → AnchorAnswer
 get_call index tables t = get_answer (refusal_seen tables t) index t.cache.base (anchors_of tables t.cache)

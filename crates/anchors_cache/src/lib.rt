@@ -3,15 +3,18 @@
 // Every call asks document 01's questions of what it is handed; a refused call answers the number and changes nothing.
 #![tactic(auto)]
 
-ghost use Rattle.std.specs.Prelude.{◌≡◌, ◌+◌, ◌*◌, ◌<◌, ◌≤◌, length};
+ghost use Rattle.std.specs.Prelude.{Ok, ◌≡◌, ◌+◌, ◌*◌, ◌<◌, ◌≤◌, length};
 ghost use Rattle.rows.specs.Rows.{pick};
 ghost use Rattle.cache_rules.specs.Rules.{max_history, max_anchors, last_of};
 ghost use Rattle.anchors_cache.specs.Tables.{tables_bytes, info_row, anchors, infos};
 ghost use Rattle.anchors_cache.specs.Windows.{history_added, added_tables, added_area, any_places};
-ghost use Rattle.anchors_cache.specs.Calls.{same_window, on_zero, row_for, info_with, add_info_number, add_info_call, add_number, add_call, refusal, row_at, info_row_at, pop_call, pops_call, trim_call, clear_call, open_call, commit_call, rollback_call, close_call, last_info_call, info_at_ct_call, last_id_call, get_call, pending_call, pending_in_range_call, shown_info, shown_anchor, closed_transaction};
+ghost use Rattle.refusals.specs.Refusals.{number};
+ghost use Rattle.anchors_cache.specs.Answers.{done_of, popped_of, trimmed_of, anchor_answer_of, info_answer_of, id_answer_of, flag_answer_of};
+ghost use Rattle.anchors_cache.specs.Calls.{with_cache, on_zero, row_for, info_with, add_info_number, add_info_call, add_number, add_call, refusal, row_at, info_row_at, pop_call, pops_call, trim_call, clear_call, open_call, commit_call, rollback_call, close_call, last_info_call, info_at_ct_call, last_id_call, get_call, pending_call, pending_in_range_call, shown_info, shown_anchor, closed_transaction};
 
 use cache_rules::{AUTHOR_BYTES, MAX_ANCHORS, MAX_HISTORY};
 use ext_types::{ChainTime, ExternalKey};
+use refusals::Refusal;
 
 mod questions;
 mod tables;
@@ -27,7 +30,7 @@ pub const TABLES_BYTES: usize = HISTORY_BYTES + ANCHOR_BYTES;
 // Where the cached anchors and the imported history stand in the tables, and the first cached message in the area, in
 // rows and messages.
 #[repr(C)]
-#[derive(Clone, Copy)]
+#[derive(Clone, Copy, Debug, PartialEq, Eq)]
 pub struct AnchorsCache {
     pub first: usize,
     pub len: usize,
@@ -39,7 +42,7 @@ pub struct AnchorsCache {
 
 // `undo` is what a rollback restores; it and the mark mean nothing while no transaction is open.
 #[repr(C)]
-#[derive(Clone, Copy)]
+#[derive(Clone, Copy, Debug, PartialEq, Eq)]
 pub struct AnchorsCacheTransaction {
     pub cache: AnchorsCache,
     pub undo: AnchorsCache,
@@ -49,7 +52,7 @@ pub struct AnchorsCacheTransaction {
 
 // An anchor as it is imported, beside its messages.
 #[repr(C)]
-#[derive(Clone, Copy)]
+#[derive(Clone, Copy, Debug, PartialEq, Eq)]
 pub struct MempoolAnchor {
     pub id: u32,
     pub chain_time: ChainTime,
@@ -58,7 +61,7 @@ pub struct MempoolAnchor {
 
 // A cached anchor; its `count` messages stand in the area from `place` on, in messages.
 #[repr(C)]
-#[derive(Clone, Copy)]
+#[derive(Clone, Copy, Debug, PartialEq, Eq)]
 pub struct CachedAnchor {
     pub id: u32,
     pub chain_time: ChainTime,
@@ -69,7 +72,7 @@ pub struct CachedAnchor {
 
 // An entry of the imported history.
 #[repr(C)]
-#[derive(Clone, Copy)]
+#[derive(Clone, Copy, Debug, PartialEq, Eq)]
 pub struct AnchorInfo {
     pub id: u32,
     pub ct: ChainTime,
@@ -77,128 +80,46 @@ pub struct AnchorInfo {
     pub our_exts_count: u32,
 }
 
-#[derive(Clone, Copy)]
-pub enum FoundAnchor {
-    Anchor(CachedAnchor),
-    Nothing,
+// A value, and who wrote it.
+#[derive(Clone, Copy, Debug, PartialEq, Eq)]
+pub struct Authored<T> {
+    pub value: T,
+    pub author: [u8; AUTHOR_BYTES],
 }
 
-#[derive(Clone, Copy)]
-pub enum FoundInfo {
-    Info(AnchorInfo),
-    Nothing,
-}
-
-#[derive(Clone, Copy)]
-pub enum FoundId {
-    Id(u32, ChainTime),
-    Nothing,
-}
-
-// The messages of some anchors, unless one of them is not as question 5 wants it.
-#[derive(Clone, Copy)]
-pub(crate) enum Total {
-    Messages(usize),
-    Unsound,
-}
-
-// Answers. The author stands beside the enum and is zero where there is none.
-#[derive(Clone, Copy)]
-pub struct Done {
-    pub number: u8,
+// What a call answers, and the transaction that it leaves.
+#[derive(Clone, Copy, Debug, PartialEq, Eq)]
+pub struct After<T> {
+    pub answer: T,
     pub state: AnchorsCacheTransaction,
 }
 
-#[derive(Clone, Copy)]
-pub struct Popped {
-    pub number: u8,
-    pub front: FoundAnchor,
-    pub author: [u8; AUTHOR_BYTES],
-    pub state: AnchorsCacheTransaction,
-}
-
-#[derive(Clone, Copy)]
-pub struct Trimmed {
-    pub number: u8,
-    pub last: FoundInfo,
-    pub author: [u8; AUTHOR_BYTES],
-    pub state: AnchorsCacheTransaction,
-}
-
-#[derive(Clone, Copy)]
-pub struct AnchorAnswer {
-    pub number: u8,
-    pub anchor: FoundAnchor,
-    pub author: [u8; AUTHOR_BYTES],
-}
-
-#[derive(Clone, Copy)]
-pub struct InfoAnswer {
-    pub number: u8,
-    pub info: FoundInfo,
-    pub author: [u8; AUTHOR_BYTES],
-}
-
-#[derive(Clone, Copy)]
-pub struct IdAnswer {
-    pub number: u8,
-    pub last: FoundId,
-}
-
-#[repr(C)]
-#[derive(Clone, Copy)]
-pub struct FlagAnswer {
-    pub number: u8,
-    pub flag: bool,
-}
+const NO_CACHE: AnchorsCache = AnchorsCache {
+    first: 0,
+    len: 0,
+    history_first: 0,
+    history_len: 0,
+    base: 0,
+    pending: false,
+};
 
 // An empty cache, and no transaction open.
 pub fn new() -> AnchorsCacheTransaction
     ensures { result ≡ closed_transaction }
 {
-    let c = AnchorsCache {
-        first: 0,
-        len: 0,
-        history_first: 0,
-        history_len: 0,
-        base: 0,
-        pending: false,
-    };
     AnchorsCacheTransaction {
-        cache: c,
-        undo: c,
+        cache: NO_CACHE,
+        undo: NO_CACHE,
         active: false,
         committed: false,
     }
 }
 
-// The same five numbers and flag.
-pub fn same_window(a: AnchorsCache, b: AnchorsCache) -> bool
-    ensures { result ≡ same_window a b }
-{
-    if a.first != b.first {
-        return false;
-    }
-    if a.len != b.len {
-        return false;
-    }
-    if a.history_first != b.history_first {
-        return false;
-    }
-    if a.history_len != b.history_len {
-        return false;
-    }
-    if a.base != b.base {
-        return false;
-    }
-    questions::same_bool(a.pending, b.pending)
-}
-
 // Questions 1 and 5, for a reader that goes on by rows.
-pub fn check_cache(tables: &[u8], area: &[u8], t: AnchorsCacheTransaction) -> u8
-    ensures { result ≡ refusal (length area.now) tables.now t }
+pub fn check_cache(tables: &[u8], area: &[u8], t: AnchorsCacheTransaction) -> Result<(), Refusal>
+    ensures { number result ≡ refusal (length area.now) tables.now t }
 {
-    questions::refusal_of(tables, area.len(), t)
+    questions::check(tables, area.len(), t)
 }
 
 // One row of the anchors' table, with the place that is given; past the table every number is 0.
@@ -213,7 +134,7 @@ pub fn cached_row(tables: &[u8], i: usize, place: usize) -> CachedAnchor
         chain_time: ChainTime(0),
         ours: 0,
         count: 0,
-        place: place,
+        place,
     }
 }
 
@@ -232,33 +153,27 @@ pub fn history_row(tables: &[u8], i: usize) -> AnchorInfo
     }
 }
 
-// An entry to the history alone; its author stands beside it.
+// The transaction with another cache.
+fn with_cache(t: AnchorsCacheTransaction, cache: AnchorsCache) -> AnchorsCacheTransaction
+    ensures { result ≡ with_cache t cache }
+{
+    AnchorsCacheTransaction { cache, ..t }
+}
+
+// An entry to the history alone.
 pub fn add_imported_anchor_info(
     tables: &mut [u8],
     area: &[u8],
     t: AnchorsCacheTransaction,
     anchor_info: AnchorInfo,
     author: [u8; AUTHOR_BYTES],
-) -> Done
-    ensures { (result ≡ add_info_call (length area.now) tables.old t)
+) -> Result<AnchorsCacheTransaction, Refusal>
+    ensures { (done_of t result ≡ add_info_call (length area.now) tables.old t)
         × (tables.new ≡ on_zero (add_info_number (length area.now) tables.old t) (history_added (info_row (info_with anchor_info author)) t.cache tables.old) tables.old) }
 {
-    let r = questions::add_info_number(&*tables, area.len(), t);
-    if r != 0 {
-        return Done {
-            number: r,
-            state: t,
-        };
-    }
+    questions::check_add_info(tables, area.len(), t)?;
     let row = tables::info_row(anchor_info, author);
-    let cache = t.cache;
-    let c = windows::in_history(cache, tables, &row);
-    let mut s = t;
-    s.cache = c;
-    Done {
-        number: 0,
-        state: s,
-    }
+    Ok(with_cache(t, windows::in_history(t.cache, tables, &row)))
 }
 
 // An anchor to the history always, to the cache where ours is above 0.
@@ -269,128 +184,85 @@ pub fn add(
     anchor: MempoolAnchor,
     our_exts_count: u32,
     messages: &[u8],
-) -> Done
+) -> Result<AnchorsCacheTransaction, Refusal>
     ensures { let a = row_for anchor our_exts_count (length messages.now) in
         let number = add_number (length area.old) tables.old t anchor.id our_exts_count (length messages.now) in
-        (result ≡ add_call number a (length area.old) (length messages.now) tables.old t)
+        (done_of t result ≡ add_call number a (length area.old) (length messages.now) tables.old t)
         × (tables.new ≡ on_zero number (added_tables a t.cache tables.old) tables.old)
         × (area.new ≡ on_zero number (added_area a messages.now tables.old t.cache area.old) area.old) }
 {
-    let r = questions::add_number(
-        &*tables,
+    questions::check_add(
+        tables,
         area.len(),
         t,
         anchor.id,
         our_exts_count,
         messages.len(),
-    );
-    if r != 0 {
-        return Done {
-            number: r,
-            state: t,
-        };
-    }
-    let cache = t.cache;
-    let c = windows::added_cache(cache, tables, area, anchor, our_exts_count, messages);
-    let mut s = t;
-    s.cache = c;
-    Done {
-        number: 0,
-        state: s,
-    }
+    )?;
+    let cache = windows::added_cache(t.cache, tables, area, anchor, our_exts_count, messages);
+    Ok(with_cache(t, cache))
 }
 
-// The anchor that is `i` behind the first of a window's `len` anchors, and its author.
-fn shown_anchor(tables: &[u8], first: usize, len: usize, base: usize, i: usize) -> AnchorAnswer
+// The anchor that is `i` behind the first of a window's `len` anchors.
+fn shown_anchor(
+    tables: &[u8],
+    first: usize,
+    len: usize,
+    base: usize,
+    i: usize,
+) -> Option<Authored<CachedAnchor>>
     requires { (first + len ≤ max_anchors) × (tables_bytes ≤ length tables.now) × (base ≤ any_places) }
-    ensures { result ≡ shown_anchor i base (anchors first len tables.now) }
+    ensures { anchor_answer_of (Ok result) ≡ shown_anchor i base (anchors first len tables.now) }
 {
     if len <= i {
-        return AnchorAnswer {
-            number: 0,
-            anchor: FoundAnchor::Nothing,
-            author: [0u8; AUTHOR_BYTES],
-        };
+        return None;
     }
     let place = base + tables::total_count(tables, first, i);
-    let a = tables::anchor_at(tables, first + i, place);
+    let value = tables::anchor_at(tables, first + i, place);
     let author = tables::author_at(tables, HISTORY_BYTES + 50 * (first + i) + 12);
-    AnchorAnswer {
-        number: 0,
-        anchor: FoundAnchor::Anchor(a),
-        author: author,
-    }
+    Some(Authored { value, author })
 }
 
-// The last of `len` history entries, and its author.
-fn shown_info(tables: &[u8], first: usize, len: usize) -> InfoAnswer
+// The last of `len` history entries.
+fn shown_info(tables: &[u8], first: usize, len: usize) -> Option<Authored<AnchorInfo>>
     requires { (first + len ≤ max_history) × (tables_bytes ≤ length tables.now) }
-    ensures { result ≡ shown_info (last_of (infos first len tables.now)) }
+    ensures { info_answer_of (Ok result) ≡ shown_info (last_of (infos first len tables.now)) }
 {
     if len == 0 {
-        return InfoAnswer {
-            number: 0,
-            info: FoundInfo::Nothing,
-            author: [0u8; AUTHOR_BYTES],
-        };
+        return None;
     }
     let i = first + (len - 1);
-    let e = tables::info_at(tables, i);
+    let value = tables::info_at(tables, i);
     let author = tables::author_at(tables, 52 * i + 20);
-    InfoAnswer {
-        number: 0,
-        info: FoundInfo::Info(e),
-        author: author,
-    }
+    Some(Authored { value, author })
 }
 
 // The front anchor goes, then stale history.
-pub fn pop_front(tables: &[u8], area: &[u8], t: AnchorsCacheTransaction) -> Popped
-    ensures { result ≡ pop_call (length area.now) tables.now t }
+pub fn pop_front(
+    tables: &[u8],
+    area: &[u8],
+    t: AnchorsCacheTransaction,
+) -> Result<After<Option<Authored<CachedAnchor>>>, Refusal>
+    ensures { popped_of t result ≡ pop_call (length area.now) tables.now t }
 {
-    let r = questions::refusal_of(tables, area.len(), t);
-    if r != 0 {
-        return Popped {
-            number: r,
-            front: FoundAnchor::Nothing,
-            author: [0u8; AUTHOR_BYTES],
-            state: t,
-        };
-    }
-    let cache = t.cache;
-    let shown = shown_anchor(tables, cache.first, cache.len, cache.base, 0);
-    let front = shown.anchor;
-    let author = shown.author;
-    let c = windows::popped_cache(tables, cache);
-    let mut s = t;
-    s.cache = c;
-    Popped {
-        number: 0,
-        front: front,
-        author: author,
-        state: s,
-    }
+    questions::check(tables, area.len(), t)?;
+    let c = t.cache;
+    let answer = shown_anchor(tables, c.first, c.len, c.base, 0);
+    let state = with_cache(t, windows::popped_cache(tables, c));
+    Ok(After { answer, state })
 }
 
 // So many pops at once, as far as there are anchors.
-pub fn pop_fronts(tables: &[u8], area: &[u8], t: AnchorsCacheTransaction, count: usize) -> Done
-    ensures { result ≡ pops_call (length area.now) count tables.now t }
+pub fn pop_fronts(
+    tables: &[u8],
+    area: &[u8],
+    t: AnchorsCacheTransaction,
+    count: usize,
+) -> Result<AnchorsCacheTransaction, Refusal>
+    ensures { done_of t result ≡ pops_call (length area.now) count tables.now t }
 {
-    let r = questions::refusal_of(tables, area.len(), t);
-    if r != 0 {
-        return Done {
-            number: r,
-            state: t,
-        };
-    }
-    let cache = t.cache;
-    let c = windows::popped_times(tables, cache, count);
-    let mut s = t;
-    s.cache = c;
-    Done {
-        number: 0,
-        state: s,
-    }
+    questions::check(tables, area.len(), t)?;
+    Ok(with_cache(t, windows::popped_times(tables, t.cache, count)))
 }
 
 // Cached anchors and history entries above ct go from the back, never the last history entry.
@@ -399,120 +271,75 @@ pub fn remove_last_imported_above(
     area: &[u8],
     t: AnchorsCacheTransaction,
     ct: ChainTime,
-) -> Trimmed
-    ensures { result ≡ trim_call (length area.now) ct.0 tables.now t }
+) -> Result<After<Option<Authored<AnchorInfo>>>, Refusal>
+    ensures { trimmed_of t result ≡ trim_call (length area.now) ct.0 tables.now t }
 {
-    let r = questions::refusal_of(tables, area.len(), t);
-    if r != 0 {
-        return Trimmed {
-            number: r,
-            last: FoundInfo::Nothing,
-            author: [0u8; AUTHOR_BYTES],
-            state: t,
-        };
-    }
-    let cache = t.cache;
-    let c = windows::trimmed_cache(tables, cache, ct);
-    let shown = shown_info(tables, c.history_first, c.history_len);
-    let last = shown.info;
-    let author = shown.author;
-    let mut s = t;
-    s.cache = c;
-    Trimmed {
-        number: 0,
-        last: last,
-        author: author,
-        state: s,
-    }
+    questions::check(tables, area.len(), t)?;
+    let c = windows::trimmed_cache(tables, t.cache, ct);
+    let answer = shown_info(tables, c.history_first, c.history_len);
+    Ok(After {
+        answer,
+        state: with_cache(t, c),
+    })
 }
 
 // The cache is emptied; no transaction may be open.
-pub fn clear(tables: &[u8], area: &[u8], t: AnchorsCacheTransaction) -> Done
-    ensures { result ≡ clear_call (length area.now) tables.now t }
+#[tactic(auto, using(crate::proofs::Refused::done_refused, crate::proofs::Refused::flag_refused), unfolding(crate::specs::Calls::clear_call, crate::specs::Calls::answer))]
+pub fn clear(
+    tables: &[u8],
+    area: &[u8],
+    t: AnchorsCacheTransaction,
+) -> Result<AnchorsCacheTransaction, Refusal>
+    ensures { done_of t result ≡ clear_call (length area.now) tables.now t }
 {
-    let r = questions::refusal_at(tables, area.len(), t, false);
-    if r != 0 {
-        return Done {
-            number: r,
-            state: t,
-        };
-    }
-    let e = new();
-    let c = e.cache;
-    let mut s = t;
-    s.cache = c;
-    Done {
-        number: 0,
-        state: s,
-    }
+    questions::check_at(tables, area.len(), t, false)?;
+    Ok(with_cache(t, NO_CACHE))
 }
 
-pub fn open(tables: &[u8], area: &[u8], t: AnchorsCacheTransaction) -> Done
-    ensures { result ≡ open_call (length area.now) tables.now t }
+#[tactic(auto, using(crate::proofs::Refused::done_refused, crate::proofs::Refused::flag_refused), unfolding(crate::specs::Calls::open_call, crate::specs::Calls::answer))]
+pub fn open(
+    tables: &[u8],
+    area: &[u8],
+    t: AnchorsCacheTransaction,
+) -> Result<AnchorsCacheTransaction, Refusal>
+    ensures { done_of t result ≡ open_call (length area.now) tables.now t }
 {
-    let r = questions::refusal_at(tables, area.len(), t, false);
-    if r != 0 {
-        return Done {
-            number: r,
-            state: t,
-        };
-    }
-    let c = t.cache;
-    let s = AnchorsCacheTransaction {
-        cache: c,
-        undo: c,
+    questions::check_at(tables, area.len(), t, false)?;
+    Ok(AnchorsCacheTransaction {
+        cache: t.cache,
+        undo: t.cache,
         active: true,
         committed: false,
-    };
-    Done {
-        number: 0,
-        state: s,
-    }
+    })
 }
 
 // Sets the mark, and ends nothing.
-pub fn commit(tables: &[u8], area: &[u8], t: AnchorsCacheTransaction) -> Done
-    ensures { result ≡ commit_call (length area.now) tables.now t }
+#[tactic(auto, using(crate::proofs::Refused::done_refused, crate::proofs::Refused::flag_refused), unfolding(crate::specs::Calls::commit_call, crate::specs::Calls::answer))]
+pub fn commit(
+    tables: &[u8],
+    area: &[u8],
+    t: AnchorsCacheTransaction,
+) -> Result<AnchorsCacheTransaction, Refusal>
+    ensures { done_of t result ≡ commit_call (length area.now) tables.now t }
 {
-    let r = questions::refusal_at(tables, area.len(), t, true);
-    if r != 0 {
-        return Done {
-            number: r,
-            state: t,
-        };
-    }
-    let present = t.cache;
-    let opening = t.undo;
-    let s = AnchorsCacheTransaction {
-        cache: present,
-        undo: opening,
-        active: t.active,
+    questions::check_at(tables, area.len(), t, true)?;
+    Ok(AnchorsCacheTransaction {
         committed: true,
-    };
-    Done {
-        number: 0,
-        state: s,
-    }
+        ..t
+    })
 }
 
 // The cache as it was opened; the mark stays.
-pub fn rollback(tables: &[u8], area: &[u8], t: AnchorsCacheTransaction) -> Done
-    ensures { result ≡ rollback_call (length area.now) tables.now t }
+#[tactic(auto, using(crate::proofs::Refused::done_refused, crate::proofs::Refused::flag_refused), unfolding(crate::specs::Calls::rollback_call, crate::specs::Calls::answer))]
+pub fn rollback(
+    tables: &[u8],
+    area: &[u8],
+    t: AnchorsCacheTransaction,
+) -> Result<AnchorsCacheTransaction, Refusal>
+    ensures { done_of t result ≡ rollback_call (length area.now) tables.now t }
 {
-    let r = questions::refusal_at(tables, area.len(), t, true);
-    if r != 0 {
-        return Done {
-            number: r,
-            state: t,
-        };
-    }
-    let undo = t.undo;
-    let mut s = t;
-    s.cache = undo;
-    Done {
-        number: 0,
-        state: s,
-    }
+    questions::check_at(tables, area.len(), t, true)?;
+    Ok(with_cache(t, t.undo))
 }
 
 // What a close keeps.
@@ -523,41 +350,31 @@ fn kept(committed: bool, present: AnchorsCache, opening: AnchorsCache) -> Anchor
 }
 
 // The Rust's drop: a rollback, unless the mark was ever set.
-pub fn close(tables: &[u8], area: &[u8], t: AnchorsCacheTransaction) -> Done
-    ensures { result ≡ close_call (length area.now) tables.now t }
+#[tactic(auto, using(crate::proofs::Refused::done_refused, crate::proofs::Refused::flag_refused), unfolding(crate::specs::Calls::close_call, crate::specs::Calls::answer))]
+pub fn close(
+    tables: &[u8],
+    area: &[u8],
+    t: AnchorsCacheTransaction,
+) -> Result<AnchorsCacheTransaction, Refusal>
+    ensures { done_of t result ≡ close_call (length area.now) tables.now t }
 {
-    let r = questions::refusal_at(tables, area.len(), t, true);
-    if r != 0 {
-        return Done {
-            number: r,
-            state: t,
-        };
-    }
-    let present = t.cache;
-    let opening = t.undo;
-    let c = kept(t.committed, present, opening);
-    let mut s = t;
-    s.cache = c;
-    s.active = false;
-    Done {
-        number: 0,
-        state: s,
-    }
+    questions::check_at(tables, area.len(), t, true)?;
+    Ok(AnchorsCacheTransaction {
+        cache: kept(t.committed, t.cache, t.undo),
+        active: false,
+        ..t
+    })
 }
 
-pub fn last_imported_anchor_info(tables: &[u8], t: AnchorsCacheTransaction) -> InfoAnswer
-    ensures { result ≡ last_info_call tables.now t }
+pub fn last_imported_anchor_info(
+    tables: &[u8],
+    t: AnchorsCacheTransaction,
+) -> Result<Option<Authored<AnchorInfo>>, Refusal>
+    ensures { info_answer_of result ≡ last_info_call tables.now t }
 {
-    let r = questions::refusal_seen(tables, t);
-    if r != 0 {
-        return InfoAnswer {
-            number: r,
-            info: FoundInfo::Nothing,
-            author: [0u8; AUTHOR_BYTES],
-        };
-    }
+    questions::check_seen(tables, t)?;
     let c = t.cache;
-    shown_info(tables, c.history_first, c.history_len)
+    Ok(shown_info(tables, c.history_first, c.history_len))
 }
 
 // The entry that a trim at ct would leave last.
@@ -565,72 +382,46 @@ pub fn last_imported_anchor_info_at_ct(
     tables: &[u8],
     t: AnchorsCacheTransaction,
     ct: ChainTime,
-) -> InfoAnswer
-    ensures { result ≡ info_at_ct_call ct.0 tables.now t }
+) -> Result<Option<Authored<AnchorInfo>>, Refusal>
+    ensures { info_answer_of result ≡ info_at_ct_call ct.0 tables.now t }
 {
-    let r = questions::refusal_seen(tables, t);
-    if r != 0 {
-        return InfoAnswer {
-            number: r,
-            info: FoundInfo::Nothing,
-            author: [0u8; AUTHOR_BYTES],
-        };
-    }
+    questions::check_seen(tables, t)?;
     let c = t.cache;
-    let first = c.history_first;
-    let kept = tables::history_kept_len(tables, first, c.history_len, ct);
-    shown_info(tables, first, kept)
+    let kept = tables::history_kept_len(tables, c.history_first, c.history_len, ct);
+    Ok(shown_info(tables, c.history_first, kept))
 }
 
-pub fn get_last_imported_anchor_id_and_ct(tables: &[u8], t: AnchorsCacheTransaction) -> IdAnswer
-    ensures { result ≡ last_id_call tables.now t }
+pub fn get_last_imported_anchor_id_and_ct(
+    tables: &[u8],
+    t: AnchorsCacheTransaction,
+) -> Result<Option<(u32, ChainTime)>, Refusal>
+    ensures { id_answer_of result ≡ last_id_call tables.now t }
 {
-    let a = last_imported_anchor_info(tables, t);
-    let info = a.info;
-    let FoundInfo::Info(e) = info else {
-        return IdAnswer {
-            number: a.number,
-            last: FoundId::Nothing,
-        };
+    let Some(entry) = last_imported_anchor_info(tables, t)? else {
+        return Ok(None);
     };
-    let ct = e.ct;
-    IdAnswer {
-        number: a.number,
-        last: FoundId::Id(e.id, ct),
-    }
+    Ok(Some((entry.value.id, entry.value.ct)))
 }
 
 // The cached anchor at an index, the front at 0.
-pub fn get(tables: &[u8], t: AnchorsCacheTransaction, index: usize) -> AnchorAnswer
-    ensures { result ≡ get_call index tables.now t }
+pub fn get(
+    tables: &[u8],
+    t: AnchorsCacheTransaction,
+    index: usize,
+) -> Result<Option<Authored<CachedAnchor>>, Refusal>
+    ensures { anchor_answer_of result ≡ get_call index tables.now t }
 {
-    let r = questions::refusal_seen(tables, t);
-    if r != 0 {
-        return AnchorAnswer {
-            number: r,
-            anchor: FoundAnchor::Nothing,
-            author: [0u8; AUTHOR_BYTES],
-        };
-    }
+    questions::check_seen(tables, t)?;
     let c = t.cache;
-    shown_anchor(tables, c.first, c.len, c.base, index)
+    Ok(shown_anchor(tables, c.first, c.len, c.base, index))
 }
 
-pub fn has_pending_externals(tables: &[u8], t: AnchorsCacheTransaction) -> FlagAnswer
-    ensures { result ≡ pending_call tables.now t }
+#[tactic(auto, using(crate::proofs::Refused::done_refused, crate::proofs::Refused::flag_refused), unfolding(crate::specs::Calls::pending_call, crate::specs::Calls::flag_answer))]
+pub fn has_pending_externals(tables: &[u8], t: AnchorsCacheTransaction) -> Result<bool, Refusal>
+    ensures { flag_answer_of result ≡ pending_call tables.now t }
 {
-    let r = questions::refusal_seen(tables, t);
-    if r != 0 {
-        return FlagAnswer {
-            number: r,
-            flag: false,
-        };
-    }
-    let c = t.cache;
-    FlagAnswer {
-        number: 0,
-        flag: c.pending,
-    }
+    questions::check_seen(tables, t)?;
+    Ok(t.cache.pending)
 }
 
 // Some anchor up to the key has messages of ours. Ids rise and each cached anchor has some, so the front decides.
@@ -638,26 +429,14 @@ pub fn check_has_pending_externals_in_range(
     tables: &[u8],
     t: AnchorsCacheTransaction,
     up_to: ExternalKey,
-) -> FlagAnswer
-    ensures { result ≡ pending_in_range_call up_to tables.now t }
+) -> Result<bool, Refusal>
+    ensures { flag_answer_of result ≡ pending_in_range_call up_to tables.now t }
 {
-    let r = questions::refusal_seen(tables, t);
-    if r != 0 {
-        return FlagAnswer {
-            number: r,
-            flag: false,
-        };
-    }
+    questions::check_seen(tables, t)?;
     let c = t.cache;
     if c.len == 0 {
-        return FlagAnswer {
-            number: 0,
-            flag: false,
-        };
+        return Ok(false);
     }
     let front = tables::anchor_at(tables, c.first, 0);
-    FlagAnswer {
-        number: 0,
-        flag: front.id <= up_to.anchor_id,
-    }
+    Ok(front.id <= up_to.anchor_id)
 }

@@ -1,11 +1,13 @@
 // The questions of document 01 that the cache's calls ask: 1 and 5 to 9. The number 0 says that each is answered yes.
-ghost use Rattle.std.specs.Prelude.{◌≡◌, ◌+◌, ◌*◌, ◌/◌, ◌<◌, ◌≤◌, length};
-ghost use Rattle.cache_rules.specs.Rules.{max_anchors, same_bool, right_size, above_last, last_of, room};
+ghost use Rattle.std.specs.Prelude.{◌≡◌, ◌+◌, ◌*◌, ◌/◌, ◌<◌, ◌≤◌, ◌&&◌, leb, length};
+ghost use Rattle.cache_rules.specs.Rules.{max_anchors, max_history, same_bool, right_size, above_last, last_of, room};
+ghost use Rattle.refusals.specs.Refusals.{number};
 ghost use Rattle.anchors_cache.specs.Tables.{tables_bytes, anchors};
 ghost use Rattle.anchors_cache.specs.Calls.{sound_anchor, sound_total, valid_cache, valid, refusal, refusal_at, refusal_seen, add_number, add_info_number};
 
-use crate::{AnchorsCache, AnchorsCacheTransaction, CachedAnchor, Total, tables};
+use crate::{AnchorsCache, AnchorsCacheTransaction, CachedAnchor, tables};
 use cache_rules::{AREA_BYTES, MAX_ANCHOR_MESSAGES, MAX_ANCHORS, MAX_HISTORY, MAX_MESSAGES};
+use refusals::Refusal;
 
 // As many messages as any area can hold: what a call asks that is lent none.
 const ANY_PLACES: usize = usize::MAX / 33;
@@ -13,220 +15,176 @@ const ANY_PLACES: usize = usize::MAX / 33;
 pub(crate) fn same_bool(a: bool, b: bool) -> bool
     ensures { result ≡ same_bool a b }
 {
-    if a { b } else { !b }
+    a == b
 }
 
 // One anchor as question 5 wants it: its id is not below low, ours above 0 and at most the count, which is at most 512.
 fn is_sound(a: CachedAnchor, low: u64) -> bool
     ensures { result ≡ sound_anchor low a }
 {
-    if (a.id as u64) < low {
-        return false;
-    }
-    if a.ours < 1 {
-        return false;
-    }
-    if a.count < a.ours as usize {
-        return false;
-    }
-    a.count <= MAX_ANCHOR_MESSAGES
+    low <= a.id as u64 && 0 < a.ours && a.ours as usize <= a.count && a.count <= MAX_ANCHOR_MESSAGES
 }
 
 // The messages of anchors that are as question 5 wants them.
-fn sound_total(tables: &[u8], first: usize, len: usize) -> Total
+fn sound_total(tables: &[u8], first: usize, len: usize) -> Option<usize>
     requires { (first + len ≤ max_anchors) × (tables_bytes ≤ length tables.now) }
     ensures { result ≡ sound_total 0 0 (anchors first len tables.now) }
 {
-    let mut at = first;
-    let mut left = len;
-    let mut low: u64 = 0;
-    let mut sum: usize = 0;
-    while 0 < left {
-        let a = tables::anchor_at(tables, at, 0);
+    let mut low = 0;
+    let mut sum = 0;
+    for i in first..first + len {
+        let a = tables::anchor_at(tables, i, 0);
         if !is_sound(a, low) {
-            return Total::Unsound;
+            return None;
         }
         low = a.id as u64 + 1;
         sum += a.count;
-        at += 1;
-        left -= 1;
     }
-    Total::Messages(sum)
+    Some(sum)
+}
+
+// The lent tables are whole, and both windows lie in them.
+fn lies_within(tables: &[u8], c: AnchorsCache) -> bool
+    ensures { result ≡ (leb tables_bytes (length tables.now) && (leb (c.first + c.len) max_anchors && leb (c.history_first + c.history_len) max_history)) }
+{
+    crate::TABLES_BYTES <= tables.len()
+        && rows::sum_within(c.first, c.len, MAX_ANCHORS)
+        && rows::sum_within(c.history_first, c.history_len, MAX_HISTORY)
 }
 
 // Question 5 of a window, over an area of so many places.
 fn valid_cache(tables: &[u8], places: usize, c: AnchorsCache) -> bool
     ensures { result ≡ valid_cache places tables.now c }
 {
-    if tables.len() < crate::TABLES_BYTES {
+    if !lies_within(tables, c) {
         return false;
     }
-    let first = c.first;
-    let len = c.len;
-    if !rows::sum_within(first, len, MAX_ANCHORS) {
-        return false;
-    }
-    if !rows::sum_within(c.history_first, c.history_len, MAX_HISTORY) {
-        return false;
-    }
-    let total = sound_total(tables, first, len);
-    let Total::Messages(sum) = total else {
+    let Some(sum) = sound_total(tables, c.first, c.len) else {
         return false;
     };
-    if MAX_MESSAGES < sum {
-        return false;
-    }
-    if !rows::sum_within(c.base, sum, places) {
-        return false;
-    }
-    same_bool(c.pending, 0 < len)
+    sum <= MAX_MESSAGES && rows::sum_within(c.base, sum, places) && same_bool(c.pending, 0 < c.len)
 }
 
 // Also of what an open transaction's rollback restores, unless that is the cache as it is.
+#[tactic(auto, using(std::proofs::lemmas::Bool::Decides::nat_tests), unfolding(crate::specs::Calls::valid))]
 fn valid_state(tables: &[u8], places: usize, t: AnchorsCacheTransaction) -> bool
     ensures { result ≡ valid places tables.now t }
 {
-    let cache = t.cache;
-    if !valid_cache(tables, places, cache) {
-        return false;
-    }
-    if t.active {
-        let undo = t.undo;
-        if crate::same_window(cache, undo) {
-            return true;
-        }
-        return valid_cache(tables, places, undo);
-    }
-    true
+    valid_cache(tables, places, t.cache)
+        && (!t.active || t.cache == t.undo || valid_cache(tables, places, t.undo))
 }
 
 // Questions 1 and 5.
-pub(crate) fn refusal_of(tables: &[u8], n: usize, t: AnchorsCacheTransaction) -> u8
-    ensures { result ≡ refusal n tables.now t }
+#[tactic(auto, using(std::proofs::lemmas::Bool::Decides::nat_tests), unfolding(crate::specs::Calls::refusal))]
+pub(crate) fn check(tables: &[u8], n: usize, t: AnchorsCacheTransaction) -> Result<(), Refusal>
+    ensures { number result ≡ refusal n tables.now t }
 {
     if n < AREA_BYTES {
-        return 1;
+        return Err(Refusal::AreaTooShort);
     }
-    if valid_state(tables, n / 33, t) {
-        return 0;
+    if !valid_state(tables, n / 33, t) {
+        return Err(Refusal::StateUnsound);
     }
-    5
+    Ok(())
 }
 
 // Questions 1, 5 and 9: a transaction must be open, or none.
-pub(crate) fn refusal_at(tables: &[u8], n: usize, t: AnchorsCacheTransaction, must: bool) -> u8
-    ensures { result ≡ refusal_at must n tables.now t }
+#[tactic(auto, using(crate::proofs::Asked::same_beq, crate::proofs::Refused::number_refused), unfolding(crate::specs::Calls::refusal, crate::specs::Calls::refusal_at))]
+pub(crate) fn check_at(
+    tables: &[u8],
+    n: usize,
+    t: AnchorsCacheTransaction,
+    must: bool,
+) -> Result<(), Refusal>
+    ensures { number result ≡ refusal_at must n tables.now t }
 {
-    let r = refusal_of(tables, n, t);
-    if r != 0 {
-        return r;
+    check(tables, n, t)?;
+    if must != t.active {
+        return Err(Refusal::TransactionOpenOrNone);
     }
-    if same_bool(must, t.active) {
-        return 0;
-    }
-    9
+    Ok(())
 }
 
 // Question 5 where no area is lent.
-pub(crate) fn refusal_seen(tables: &[u8], t: AnchorsCacheTransaction) -> u8
-    ensures { result ≡ refusal_seen tables.now t }
+#[tactic(auto, using(std::proofs::lemmas::Bool::Decides::nat_tests), unfolding(crate::specs::Calls::refusal_seen))]
+pub(crate) fn check_seen(tables: &[u8], t: AnchorsCacheTransaction) -> Result<(), Refusal>
+    ensures { number result ≡ refusal_seen tables.now t }
 {
-    if valid_state(tables, ANY_PLACES, t) {
-        return 0;
+    if !valid_state(tables, ANY_PLACES, t) {
+        return Err(Refusal::StateUnsound);
     }
-    5
+    Ok(())
 }
 
 // Question 6, of k bytes of messages.
+#[tactic(auto, using(std::proofs::lemmas::Bool::Decides::nat_tests), unfolding(cache_rules::specs::Rules::right_size))]
 fn right_size(ours: u32, k: usize) -> bool
     ensures { result ≡ right_size ours k }
 {
-    if 33 * MAX_ANCHOR_MESSAGES < k {
-        return false;
-    }
-    let count = k / 33;
-    if 33 * count < k {
-        return false;
-    }
-    ours as usize <= count
+    k <= 33 * MAX_ANCHOR_MESSAGES && k % 33 == 0 && ours as usize <= k / 33
 }
 
 // Question 7.
+#[tactic(auto, using(std::proofs::lemmas::Bool::Decides::nat_tests, crate::proofs::Laws::anchors_none, crate::proofs::Laws::last_anchor), unfolding(cache_rules::specs::Rules::last_of))]
 fn is_above(tables: &[u8], first: usize, len: usize, id: u32) -> bool
     requires { (first + len ≤ max_anchors) × (tables_bytes ≤ length tables.now) }
     ensures { result ≡ above_last id (last_of (anchors first len tables.now)) }
 {
-    if len == 0 {
-        return true;
-    }
-    let last = tables::anchor_at(tables, first + (len - 1), 0);
-    last.id < id
+    len == 0 || tables::anchor_at(tables, first + (len - 1), 0).id < id
 }
 
 // Question 8: the caps, with one anchor more.
+#[tactic(auto, using(std::proofs::lemmas::Bool::Decides::nat_tests), unfolding(cache_rules::specs::Rules::room))]
 fn has_room(anchors: usize, messages: usize, history: usize, ours: u32, count: usize) -> bool
     ensures { result ≡ room anchors messages history ours count }
 {
-    if MAX_HISTORY <= history {
-        return false;
-    }
-    if ours == 0 {
-        return true;
-    }
-    if MAX_ANCHORS <= anchors {
-        return false;
-    }
-    rows::sum_within(messages, count, MAX_MESSAGES)
+    history < MAX_HISTORY
+        && (ours == 0 || (anchors < MAX_ANCHORS && rows::sum_within(messages, count, MAX_MESSAGES)))
 }
 
 // Questions 1 and 5 to 9, of an anchor with k bytes of messages.
-pub(crate) fn add_number(
+pub(crate) fn check_add(
     tables: &[u8],
     n: usize,
     t: AnchorsCacheTransaction,
     id: u32,
     ours: u32,
     k: usize,
-) -> u8
-    ensures { result ≡ add_number n tables.now t id ours k }
+) -> Result<(), Refusal>
+    ensures { number result ≡ add_number n tables.now t id ours k }
 {
-    let r = refusal_of(tables, n, t);
-    if r != 0 {
-        return r;
-    }
+    check(tables, n, t)?;
     if !right_size(ours, k) {
-        return 6;
+        return Err(Refusal::MessagesUnsound);
     }
     let c = t.cache;
-    let first = c.first;
-    let len = c.len;
-    if !is_above(tables, first, len, id) {
-        return 7;
+    if !is_above(tables, c.first, c.len, id) {
+        return Err(Refusal::IdNotAbove);
     }
-    let used = tables::total_count(tables, first, len);
-    if !has_room(len, used, c.history_len, ours, k / 33) {
-        return 8;
+    let used = tables::total_count(tables, c.first, c.len);
+    if !has_room(c.len, used, c.history_len, ours, k / 33) {
+        return Err(Refusal::CacheFull);
     }
     if t.active {
-        return 9;
+        return Err(Refusal::TransactionOpenOrNone);
     }
-    0
+    Ok(())
 }
 
 // Questions 1, 5, 8 of the history, and 9.
-pub(crate) fn add_info_number(tables: &[u8], n: usize, t: AnchorsCacheTransaction) -> u8
-    ensures { result ≡ add_info_number n tables.now t }
+pub(crate) fn check_add_info(
+    tables: &[u8],
+    n: usize,
+    t: AnchorsCacheTransaction,
+) -> Result<(), Refusal>
+    ensures { number result ≡ add_info_number n tables.now t }
 {
-    let r = refusal_of(tables, n, t);
-    if r != 0 {
-        return r;
-    }
-    let c = t.cache;
-    if MAX_HISTORY <= c.history_len {
-        return 8;
+    check(tables, n, t)?;
+    if MAX_HISTORY <= t.cache.history_len {
+        return Err(Refusal::CacheFull);
     }
     if t.active {
-        return 9;
+        return Err(Refusal::TransactionOpenOrNone);
     }
-    0
+    Ok(())
 }

@@ -14,10 +14,7 @@ use ext_types::ChainTime;
 pub(crate) fn has_row(tables: &[u8], i: usize, cap: usize) -> bool
     ensures { result ≡ (ltb i cap && leb tables_bytes (length tables.now)) }
 {
-    if cap <= i {
-        return false;
-    }
-    TABLES_BYTES <= tables.len()
+    i < cap && TABLES_BYTES <= tables.len()
 }
 
 // The anchor in a row, with the place of its first message.
@@ -27,16 +24,12 @@ pub(crate) fn anchor_at(tables: &[u8], i: usize, place: usize) -> CachedAnchor
 {
     let at = HISTORY_BYTES + 50 * i;
     let row = &tables[at..at + 50];
-    let id = rows::u32_at(row, 0);
-    let time = ChainTime(rows::u64_at(row, 4));
-    let ours = rows::u32_at(row, 44);
-    let count = rows::u16_at(row, 48) as usize;
     CachedAnchor {
-        id: id,
-        chain_time: time,
-        ours: ours,
-        count: count,
-        place: place,
+        id: rows::num_at::<u32>(row, 0),
+        chain_time: ChainTime(rows::num_at::<u64>(row, 4)),
+        ours: rows::num_at::<u32>(row, 44),
+        count: rows::num_at::<u16>(row, 48) as usize,
+        place,
     }
 }
 
@@ -47,15 +40,11 @@ pub(crate) fn info_at(tables: &[u8], i: usize) -> AnchorInfo
 {
     let at = 52 * i;
     let row = &tables[at..at + 52];
-    let id = rows::u32_at(row, 0);
-    let time = ChainTime(rows::u64_at(row, 4));
-    let all = rows::u32_at(row, 12);
-    let ours = rows::u32_at(row, 16);
     AnchorInfo {
-        id: id,
-        ct: time,
-        all_exts_count: all,
-        our_exts_count: ours,
+        id: rows::num_at::<u32>(row, 0),
+        ct: ChainTime(rows::num_at::<u64>(row, 4)),
+        all_exts_count: rows::num_at::<u32>(row, 12),
+        our_exts_count: rows::num_at::<u32>(row, 16),
     }
 }
 
@@ -69,24 +58,17 @@ pub(crate) fn author_at(tables: &[u8], at: usize) -> [u8; AUTHOR_BYTES]
     author
 }
 
-// How many history entries stay where an anchor of chain time ct is popped.
+// How many history entries stay where an anchor of chain time ct is popped; the last one always does.
 pub(crate) fn fresh_len(tables: &[u8], first: usize, len: usize, ct: ChainTime) -> usize
     requires { (first + len ≤ max_history) × (tables_bytes ≤ length tables.now) }
     ensures { result ≡ length (drop_stale ct.0 (infos first len tables.now)) }
 {
-    let mut at = first;
-    let mut fresh = len;
-    while 1 < fresh {
-        let e = info_at(tables, at);
-        let time = e.ct;
-        if time.0 < ct.0 {
-            at += 1;
-            fresh -= 1;
-        } else {
-            return fresh;
+    for gone in 0..len.saturating_sub(1) {
+        if ct.0 <= info_at(tables, first + gone).ct.0 {
+            return len - gone;
         }
     }
-    fresh
+    len.min(1)
 }
 
 // How many cached anchors stay where those above ct go from the back.
@@ -94,17 +76,12 @@ pub(crate) fn kept_len(tables: &[u8], first: usize, len: usize, ct: ChainTime) -
     requires { (first + len ≤ max_anchors) × (tables_bytes ≤ length tables.now) }
     ensures { result ≡ length (trim_back row_time ct.0 (anchors first len tables.now)) }
 {
-    let mut left = len;
-    while 0 < left {
-        let a = anchor_at(tables, first + (left - 1), 0);
-        let last = a.chain_time;
-        if ct.0 < last.0 {
-            left -= 1;
-        } else {
-            return left;
+    for last in (0..len).rev() {
+        if anchor_at(tables, first + last, 0).chain_time.0 <= ct.0 {
+            return last + 1;
         }
     }
-    left
+    0
 }
 
 // The same for the history, whose front stays.
@@ -112,17 +89,12 @@ pub(crate) fn history_kept_len(tables: &[u8], first: usize, len: usize, ct: Chai
     requires { (first + len ≤ max_history) × (tables_bytes ≤ length tables.now) }
     ensures { result ≡ length (trim_history ct.0 (infos first len tables.now)) }
 {
-    let mut left = len;
-    while 1 < left {
-        let e = info_at(tables, first + (left - 1));
-        let time = e.ct;
-        if ct.0 < time.0 {
-            left -= 1;
-        } else {
-            return left;
+    for last in (1..len).rev() {
+        if info_at(tables, first + last).ct.0 <= ct.0 {
+            return last + 1;
         }
     }
-    left
+    len.min(1)
 }
 
 // The messages of anchors.
@@ -130,14 +102,9 @@ pub(crate) fn total_count(tables: &[u8], first: usize, len: usize) -> usize
     requires { (first + len ≤ max_anchors) × (tables_bytes ≤ length tables.now) }
     ensures { (result ≡ total (anchors first len tables.now)) × (result ≤ 65535 * len) }
 {
-    let mut at = first;
-    let mut left = len;
-    let mut sum: usize = 0;
-    while 0 < left {
-        let a = anchor_at(tables, at, 0);
-        sum += a.count;
-        at += 1;
-        left -= 1;
+    let mut sum = 0;
+    for i in first..first + len {
+        sum += anchor_at(tables, i, 0).count;
     }
     sum
 }
@@ -146,10 +113,9 @@ pub(crate) fn total_count(tables: &[u8], first: usize, len: usize) -> usize
 pub(crate) fn info_row(e: AnchorInfo, author: [u8; AUTHOR_BYTES]) -> [u8; 52]
     ensures { result ≡ info_row (info_with e author) }
 {
-    let time = e.ct;
     let mut row = [0u8; 52];
     rows::put_le(&mut row, 0, e.id as u64, 4);
-    rows::put_le(&mut row, 4, time.0, 8);
+    rows::put_le(&mut row, 4, e.ct.0, 8);
     rows::put_le(&mut row, 12, e.all_exts_count as u64, 4);
     rows::put_le(&mut row, 16, e.our_exts_count as u64, 4);
     rows::copy_in(&mut row, 20, &author);
@@ -160,12 +126,10 @@ pub(crate) fn anchor_row(a: MempoolAnchor, ours: u32, k: usize) -> [u8; 50]
     requires { k ≤ 33 * max_anchor_messages }
     ensures { result ≡ anchor_row (row_for a ours k) }
 {
-    let time = a.chain_time;
-    let author = a.author;
     let mut row = [0u8; 50];
     rows::put_le(&mut row, 0, a.id as u64, 4);
-    rows::put_le(&mut row, 4, time.0, 8);
-    rows::copy_in(&mut row, 12, &author);
+    rows::put_le(&mut row, 4, a.chain_time.0, 8);
+    rows::copy_in(&mut row, 12, &a.author);
     rows::put_le(&mut row, 44, ours as u64, 4);
     rows::put_le(&mut row, 48, (k / 33) as u64, 2);
     row

@@ -4,34 +4,28 @@ ghost use Rattle.std.specs.Prelude.{◌≡◌, ◌+◌, ◌*◌, ◌<◌, ◌≤
 ghost use Rattle.anchors_cache.specs.Tables.{tables_bytes};
 ghost use Rattle.cache_rules.specs.Rules.{max_anchors, max_anchor_messages, max_history, area_bytes};
 ghost use Rattle.anchors_cache.specs.Windows.{info_for, popped_cache, popped_times, trimmed_cache, in_history, history_added, in_cache, anchor_added, messages_added, added_cache, added_tables, added_area, Sound, Room, Lies, any_places};
-ghost use Rattle.anchors_cache.specs.Calls.{anchor_info_of, row_for, placed_at};
+ghost use Rattle.anchors_cache.specs.Calls.{anchor_info_of, row_for};
 
 use crate::{AnchorInfo, AnchorsCache, MempoolAnchor, tables};
 use ext_types::ChainTime;
-use rows::Appended;
 
 pub(crate) fn popped_cache(tables: &[u8], cache: AnchorsCache) -> AnchorsCache
     requires { (tables_bytes ≤ length tables.now) × (cache.first + cache.len ≤ max_anchors) × (cache.history_first + cache.history_len ≤ max_history) × (cache.base ≤ any_places) }
     ensures { result ≡ popped_cache tables.now cache }
 {
-    let first = cache.first;
-    let len = cache.len;
-    if len == 0 {
+    if cache.len == 0 {
         return cache;
     }
-    let a = tables::anchor_at(tables, first, 0);
-    let hf = cache.history_first;
-    let hl = cache.history_len;
-    let time = a.chain_time;
-    let left = tables::fresh_len(tables, hf, hl, time);
-    let mut c = cache;
-    c.first = first + 1;
-    c.len = len - 1;
-    c.history_first = hf + (hl - left);
-    c.history_len = left;
-    c.base = c.base + a.count;
-    c.pending = 1 < len;
-    c
+    let a = tables::anchor_at(tables, cache.first, 0);
+    let left = tables::fresh_len(tables, cache.history_first, cache.history_len, a.chain_time);
+    AnchorsCache {
+        first: cache.first + 1,
+        len: cache.len - 1,
+        history_first: cache.history_first + (cache.history_len - left),
+        history_len: left,
+        base: cache.base + a.count,
+        pending: 1 < cache.len,
+    }
 }
 
 // Pops, one after the other; those of an empty cache change nothing.
@@ -40,13 +34,8 @@ pub(crate) fn popped_times(tables: &[u8], cache: AnchorsCache, count: usize) -> 
     ensures { result ≡ popped_times count tables.now cache }
 {
     let mut c = cache;
-    let mut left = count;
-    while 0 < left {
-        if c.len == 0 {
-            return c;
-        }
+    for _ in 0..count.min(cache.len) {
         c = popped_cache(tables, c);
-        left -= 1;
     }
     c
 }
@@ -55,26 +44,16 @@ pub(crate) fn trimmed_cache(tables: &[u8], cache: AnchorsCache, ct: ChainTime) -
     requires { (tables_bytes ≤ length tables.now) × (cache.first + cache.len ≤ max_anchors) × (cache.history_first + cache.history_len ≤ max_history) }
     ensures { result ≡ trimmed_cache ct.0 tables.now cache }
 {
-    let len = cache.len;
-    let left = tables::kept_len(tables, cache.first, len, ct);
-    let kept = tables::history_kept_len(tables, cache.history_first, cache.history_len, ct);
-    let mut c = cache;
-    c.len = left;
-    c.history_len = kept;
-    if left < len {
-        c.pending = 0 < left;
-    }
-    c
-}
-
-// Where a window starts after an append.
-fn placed(appended: Appended, first: usize) -> usize
-    ensures { result ≡ placed_at appended first }
-{
-    match appended {
-        Appended::Behind => first,
-        Appended::Moved => 0,
-        Appended::NoRoom => first,
+    let left = tables::kept_len(tables, cache.first, cache.len, ct);
+    AnchorsCache {
+        len: left,
+        history_len: tables::history_kept_len(tables, cache.history_first, cache.history_len, ct),
+        pending: if left < cache.len {
+            0 < left
+        } else {
+            cache.pending
+        },
+        ..cache
     }
 }
 
@@ -83,13 +62,19 @@ pub(crate) fn in_history(c: AnchorsCache, tables: &mut [u8], row: &[u8]) -> Anch
     requires { (tables_bytes ≤ length tables.old) × (length row.now ≡ 52) × (c.history_first + c.history_len ≤ max_history) × (c.history_len < max_history) }
     ensures { (result ≡ in_history c) × (tables.new ≡ history_added row.now c tables.old) }
 {
-    let hf = c.history_first;
-    let hl = c.history_len;
-    let at = rows::append(&mut *tables, 0, 52 * hf, 52 * hl, crate::HISTORY_BYTES, row);
-    let mut d = c;
-    d.history_first = placed(at, hf);
-    d.history_len = hl + 1;
-    d
+    let at = rows::append(
+        tables,
+        0,
+        52 * c.history_first,
+        52 * c.history_len,
+        crate::HISTORY_BYTES,
+        row,
+    );
+    AnchorsCache {
+        history_first: at.placed(c.history_first),
+        history_len: c.history_len + 1,
+        ..c
+    }
 }
 
 // The window, the tables and the message area with one anchor more; `used` messages are there already.
@@ -104,25 +89,23 @@ fn in_cache(
     requires { (tables_bytes ≤ length tables.old) × (area_bytes ≤ length area.old) × (length row.now ≡ 50) × (c.first + c.len ≤ max_anchors) × (c.len < max_anchors) × (33 * (c.base + used) ≤ length area.old) × (33 * used + length messages.now ≤ area_bytes) }
     ensures { (result ≡ in_cache (length area.old) (length messages.now) used c) × (tables.new ≡ anchor_added row.now c tables.old) × (area.new ≡ messages_added messages.now used c area.old) }
 {
-    let first = c.first;
-    let len = c.len;
-    let base = c.base;
     let at = rows::append(
-        &mut *tables,
+        tables,
         crate::HISTORY_BYTES,
-        50 * first,
-        50 * len,
+        50 * c.first,
+        50 * c.len,
         crate::ANCHOR_BYTES,
         row,
     );
     let n = area.len();
-    let from = rows::append(&mut *area, 0, 33 * base, 33 * used, n, messages);
-    let mut d = c;
-    d.first = placed(at, first);
-    d.len = len + 1;
-    d.base = placed(from, base);
-    d.pending = true;
-    d
+    let from = rows::append(area, 0, 33 * c.base, 33 * used, n, messages);
+    AnchorsCache {
+        first: at.placed(c.first),
+        len: c.len + 1,
+        base: from.placed(c.base),
+        pending: true,
+        ..c
+    }
 }
 
 // An anchor's history entry, of k bytes of messages.
@@ -130,10 +113,9 @@ fn from_anchor(anchor: MempoolAnchor, ours: u32, k: usize) -> AnchorInfo
     requires { k ≤ 33 * max_anchor_messages }
     ensures { result ≡ anchor_info_of (info_for (row_for anchor ours k)) }
 {
-    let time = anchor.chain_time;
     AnchorInfo {
         id: anchor.id,
-        ct: time,
+        ct: anchor.chain_time,
         all_exts_count: (k / 33) as u32,
         our_exts_count: ours,
     }
@@ -154,15 +136,14 @@ pub(crate) fn added_cache(
         × (tables.new ≡ added_tables a c tables.old)
         × (area.new ≡ added_area a messages.now tables.old c area.old) }
 {
-    let used = tables::total_count(&*tables, c.first, c.len);
+    let used = tables::total_count(tables, c.first, c.len);
     let k = messages.len();
     let e = from_anchor(anchor, ours, k);
-    let author = anchor.author;
-    let info = tables::info_row(e, author);
-    let d = in_history(c, &mut *tables, &info);
+    let info = tables::info_row(e, anchor.author);
+    let d = in_history(c, tables, &info);
     if ours == 0 {
         return d;
     }
     let row = tables::anchor_row(anchor, ours, k);
-    in_cache(d, used, &mut *tables, &mut *area, &row, messages)
+    in_cache(d, used, tables, area, &row, messages)
 }

@@ -1,224 +1,124 @@
 // The calls that are lent tables, message area, routes and output, and the lines of what a read leaves.
-ghost use Rattle.std.specs.Prelude.{◌<◌};
-
-use crate::calls::CHANGED;
-use crate::state::Case;
-use crate::{digest, state};
-use anchors_cache::FlagAnswer;
-use ext_types::Seconds;
+use crate::calls::Answer;
+use crate::state::{Case, sound};
+use anchors_cache::TABLES_BYTES;
+use cache_rules::AREA_BYTES;
 use externals_reader::ReadIntoBuffers;
-use reader_rules::{ExternalsReader, GetNextMessageGroupMode, LastFree, MsgsExecutionParams};
+use reader_rules::GetNextMessageGroupMode::{Continue, Refill};
+use reader_rules::{ExternalsReader, GetNextMessageGroupMode, MsgsExecutionParams};
+use refusals::Refusal;
+use std::io;
 
-pub fn has_pending(c: Case, reader: ExternalsReader) -> FlagAnswer {
-    let tables = [0u8; 14912];
-    reader_offsets::has_pending_externals(&tables, state::transaction(c), reader)
-}
+// No byte of the output is so before a read.
+const UNTOUCHED: [u8; 60] = [7; 60];
 
-fn put_account(all: &mut [u8; 8738], i: usize, account: u64)
-    requires { i < 257 }
-{
-    rows::put_le(all, 34 * i + 1, account, 2);
+pub fn has_pending(case: Case, reader: ExternalsReader) -> Result<bool, Refusal> {
+    reader_offsets::has_pending_externals(&[0; TABLES_BYTES], case.transaction(), reader)
 }
 
 // 257 routes whose accounts differ, but for what the case says of the first two.
-fn routes(c: Case) -> [u8; 8738] {
-    let mut all = [0u8; 8738];
-    let mut i: usize = 0;
-    while i < 257 {
-        put_account(&mut all, i, i as u64);
-        i += 1;
+fn routes(case: Case) -> [u8; 8738] {
+    let mut all = [0; 8738];
+    for (account, row) in (0..257).zip(all.chunks_exact_mut(34)) {
+        rows::put_le(row, 1, account, 2);
     }
-    put_account(&mut all, 1, c.route);
-    all[33] = c.route_partition;
+    rows::put_le(&mut all, 35, case.route, 2);
+    all[33] = case.route_partition;
     all
 }
 
-fn group_mode(refill: bool) -> GetNextMessageGroupMode {
-    if refill {
-        return GetNextMessageGroupMode::Refill;
-    }
-    GetNextMessageGroupMode::Continue
-}
-
-fn unread(number: u8, c: Case, reader: ExternalsReader) -> ReadIntoBuffers {
-    let zeros = [0u32; 8];
-    let counts = range_rules::ReadCounts {
-        read: zeros,
-        expired: zeros,
-        buffered: zeros,
-    };
-    let free = LastFree::Nothing;
-    let t = state::transaction(c);
-    ReadIntoBuffers {
-        number: number,
-        free: free,
-        used: 0,
-        counts: counts,
-        reader: reader,
-        state: t,
-    }
-}
-
-// The read on the parts that are lent.
-fn read_lent(
-    area: &[u8],
-    bytes: &[u8],
-    c: Case,
-    reader: ExternalsReader,
-    refill: bool,
+// On the parts that are lent.
+fn read(
+    case: Case,
+    mode: GetNextMessageGroupMode,
     out: &mut [u8],
-) -> ReadIntoBuffers {
-    let tables = [0u8; 14912];
-    let t = state::transaction(c);
-    let mode = group_mode(refill);
-    let n = c.area;
-    let k = c.routes;
-    if area.len() < n {
-        return unread(CHANGED, c, reader);
-    }
-    if bytes.len() < k {
-        return unread(CHANGED, c, reader);
-    }
-    let part = &area[0..n];
-    externals_reader::read_into_buffers(&tables, part, t, &bytes[0..k], reader, mode, out)
+) -> Result<ReadIntoBuffers, Refusal> {
+    let area = [0; AREA_BYTES];
+    let routes = routes(case);
+    externals_reader::read_into_buffers(
+        &[0; TABLES_BYTES],
+        &area[..case.area.min(area.len())],
+        case.transaction(),
+        &routes[..case.routes.min(routes.len())],
+        case.reader(),
+        mode,
+        out,
+    )
 }
 
-fn read(c: Case, reader: ExternalsReader, refill: bool, out: &mut [u8; 60]) -> ReadIntoBuffers {
-    let area = [0u8; 33792];
-    let bytes = routes(c);
-    read_lent(&area, &bytes, c, reader, refill, out)
-}
-
-fn is_untouched(out: &[u8; 60]) -> bool {
-    let before = [7u8; 60];
-    check::same(out, &before)
-}
-
-fn is_nothing(free: LastFree) -> bool {
-    match free {
-        LastFree::Nothing => true,
-        LastFree::Places(_) => false,
+// A refused read leaves every byte of the output.
+pub fn answer_of_read(case: Case, mode: GetNextMessageGroupMode) -> Answer {
+    let mut out = UNTOUCHED;
+    match read(case, mode, &mut out) {
+        Ok(_) => Answer::Number(0),
+        Err(_) if out != UNTOUCHED => Answer::Changed,
+        Err(refusal) => Answer::Number(refusal.into()),
     }
-}
-
-// A refused read answers reader and transaction as it was handed them, reports no free places, and leaves every byte of
-// the output.
-pub fn number_of_read(c: Case, reader: ExternalsReader, refill: bool) -> u8 {
-    let mut out = [7u8; 60];
-    let r = read(c, reader, refill, &mut out);
-    if r.number == 0 {
-        return 0;
-    }
-    let after = r.reader;
-    let t = r.state;
-    if digest::of_reader(after) != digest::of_reader(reader) {
-        return CHANGED;
-    }
-    if digest::of_transaction(t) != digest::of_transaction(state::transaction(c)) {
-        return CHANGED;
-    }
-    if !is_untouched(&out) {
-        return CHANGED;
-    }
-    let free = r.free;
-    if !is_nothing(free) {
-        return CHANGED;
-    }
-    r.number
-}
-
-fn is_read(reader: ExternalsReader, i: usize) -> bool {
-    let state = reader.reader_state;
-    if 16 <= i {
-        return false;
-    }
-    let range = state.ranges[i];
-    range.fully_read
-}
-
-fn print_line(rt: &HostRuntime, name: &[u8], numbers: &[u64]) {
-    let mut line = [0u8; 256];
-    let at = text::put_line(&mut line, 0, name, numbers);
-    streams::write_front(&mut rt.stdout(), &line, at);
 }
 
 // What a read leaves: its number, the mark, how many ranges there are, and whether the last is fully read.
-fn print_read(rt: &HostRuntime, name: &[u8], c: Case, refill: bool) {
-    let mut out = [7u8; 60];
-    let r = read(c, state::reader(c), refill, &mut out);
-    let reader = r.reader;
-    let held = reader.reader_state;
-    let last = std::num::wrapping_sub_usize(held.len, 1);
-    let mark = reader.all_ranges_fully_read as u64;
-    let numbers = [
-        r.number as u64,
-        mark,
-        held.len as u64,
-        is_read(reader, last) as u64,
-    ];
-    print_line(rt, name, &numbers);
-}
-
-fn print_reads_of_none(rt: &HostRuntime) {
-    let mut c = state::sound();
-    c.len = 0;
-    print_read(rt, b"continue no_ranges", c, false);
-    print_read(rt, b"refill no_ranges", c, true);
-    let mut d = c;
-    d.block_seqno = 0;
-    print_read(rt, b"continue no_ranges_block_0", d, false);
-    d.block_seqno = 1;
-    print_read(rt, b"continue no_ranges_block_1", d, false);
-    let mut e = c;
-    e.no_limits = true;
-    print_read(rt, b"continue no_ranges_no_limits", e, false);
-    print_read(rt, b"refill no_ranges_no_limits", e, true);
-    let mut f = c;
-    f.waiting = true;
-    print_read(rt, b"continue no_ranges_waiting", f, false);
-}
-
-pub fn print_reads(rt: &HostRuntime) {
-    print_reads_of_none(rt);
-    let mut c = state::sound();
-    print_read(rt, b"continue sound", c, false);
-    print_read(rt, b"refill sound", c, true);
-    c.most = 2;
-    print_read(rt, b"continue open_2", c, false);
-    c.most = 0;
-    print_read(rt, b"continue open_0", c, false);
-    c.len = 1;
-    print_read(rt, b"continue open_0_one_range", c, false);
-    let mut d = state::sound();
-    d.len = 16;
-    print_read(rt, b"continue ranges_16", d, false);
-    d.len = 17;
-    print_read(rt, b"continue ranges_17", d, false);
-    let mut e = state::sound();
-    e.mark = true;
-    print_read(rt, b"continue mark_set", e, false);
-    e.active = false;
-    print_read(rt, b"continue mark_set_none_open", e, false);
-}
-
-fn limit(most: u8) -> u64 {
-    let params = MsgsExecutionParams {
-        externals_expire_timeout: Seconds(60),
-        open_ranges_limit: most,
-        new_is_some: false,
+fn put_read(
+    rt: &impl Print,
+    mode: GetNextMessageGroupMode,
+    name: &str,
+    case: Case,
+) -> io::Result<()> {
+    let word = match mode {
+        Continue => "continue",
+        Refill => "refill",
     };
-    externals_reader::open_ranges_limit(params) as u64
+    let mut output = UNTOUCHED;
+    let (number, reader) = match read(case, mode, &mut output) {
+        Ok(done) => (0, done.reader),
+        Err(refusal) => (u8::from(refusal), case.reader()),
+    };
+    let held = reader.reader_state;
+    let last = held.len.checked_sub(1).and_then(|i| held.ranges.get(i));
+    let is_read = u8::from(last.is_some_and(|range| range.fully_read));
+    let mark = u8::from(reader.all_ranges_fully_read);
+    println!(rt; "{word} {name} {number} {mark} {} {is_read}", held.len)
+}
+
+fn put_reads_of_none(rt: &impl Print) -> io::Result<()> {
+    let no_ranges = sound().with(|c| c.len = 0);
+    put_read(rt, Continue, "no_ranges", no_ranges)?;
+    put_read(rt, Refill, "no_ranges", no_ranges)?;
+    let block_0 = no_ranges.with(|c| c.block_seqno = 0);
+    put_read(rt, Continue, "no_ranges_block_0", block_0)?;
+    let block_1 = no_ranges.with(|c| c.block_seqno = 1);
+    put_read(rt, Continue, "no_ranges_block_1", block_1)?;
+    let no_limits = no_ranges.with(|c| c.no_limits = true);
+    put_read(rt, Continue, "no_ranges_no_limits", no_limits)?;
+    put_read(rt, Refill, "no_ranges_no_limits", no_limits)?;
+    let waiting = no_ranges.with(|c| c.waiting = true);
+    put_read(rt, Continue, "no_ranges_waiting", waiting)
+}
+
+pub fn put_reads(rt: &impl Print) -> io::Result<()> {
+    put_reads_of_none(rt)?;
+    put_read(rt, Continue, "sound", sound())?;
+    put_read(rt, Refill, "sound", sound())?;
+    put_read(rt, Continue, "open_2", sound().with(|c| c.most = 2))?;
+    let open_0 = sound().with(|c| c.most = 0);
+    put_read(rt, Continue, "open_0", open_0)?;
+    put_read(rt, Continue, "open_0_one_range", open_0.with(|c| c.len = 1))?;
+    put_read(rt, Continue, "ranges_16", sound().with(|c| c.len = 16))?;
+    put_read(rt, Continue, "ranges_17", sound().with(|c| c.len = 17))?;
+    let mark_set = sound().with(|c| c.mark = true);
+    put_read(rt, Continue, "mark_set", mark_set)?;
+    let none_open = mark_set.with(|c| c.active = false);
+    put_read(rt, Continue, "mark_set_none_open", none_open)
 }
 
 // The limit that counts, also where question 4 would refuse the number.
-pub fn print_limits(rt: &HostRuntime) {
-    let numbers = [
-        limit(0),
-        limit(1),
-        limit(2),
-        limit(3),
-        limit(16),
-        limit(255),
-    ];
-    print_line(rt, b"open_ranges_limit", &numbers);
+pub fn put_limits(rt: &impl Print) -> io::Result<()> {
+    print!(rt; "open_ranges_limit")?;
+    for open_ranges_limit in [0, 1, 2, 3, 16, 255] {
+        let params = MsgsExecutionParams {
+            open_ranges_limit,
+            ..sound().params()
+        };
+        print!(rt; " {}", externals_reader::open_ranges_limit(params))?;
+    }
+    println!(rt)
 }

@@ -1,215 +1,152 @@
 // Hands every call of the externals reader states that the questions refuse, and some that they must not (README.md).
 #![tactic(auto)]
 
-use state::Case;
-
 mod calls;
-mod digest;
 mod lent;
 mod state;
 
-fn put_answer(line: &mut [u8; 512], at: usize, number: u8) -> usize {
-    if number == calls::CHANGED {
-        return text::put(line, at, b" changed");
-    }
-    text::put_number(line, at, number as u64)
-}
+use cache_rules::AREA_BYTES;
+use state::{Case, sound};
+use std::io;
 
-// The end of a line is put, and the line is written.
-fn print_end(rt: &HostRuntime, line: &mut [u8; 512], at: usize) {
-    let end = text::put(line, at, b"\n");
-    streams::write_front(&mut rt.stdout(), line, end);
-}
+const SHORT_AREA: usize = AREA_BYTES - 1;
+
+// The prefix of a half of a workchain.
+const HALF: u64 = 1 << 62;
 
 // The line of a case: its name and the numbers of the calls.
-fn print_case(rt: &HostRuntime, name: &[u8], c: Case) {
-    let mut line = [0u8; 512];
-    let mut at = text::put(&mut line, 0, name);
-    let mut which: u8 = 0;
-    while which < calls::CALLS {
-        at = put_answer(&mut line, at, calls::number(c, which));
-        which += 1;
-    }
-    print_end(rt, &mut line, at);
+fn put_case(rt: &impl Print, name: &str, case: Case) -> io::Result<()> {
+    println!(rt; "{name} {case}")
 }
 
-fn print_ranges(rt: &HostRuntime) {
-    let mut c = state::sound();
-    print_case(rt, b"sound", c);
-    c.len = 16;
-    print_case(rt, b"ranges_16", c);
-    c.len = 17;
-    print_case(rt, b"ranges_17", c);
-    c.len = usize::MAX;
-    print_case(rt, b"ranges_wrap", c);
-    let mut d = state::sound();
-    d.second = 1;
-    print_case(rt, b"equal_seqnos", d);
-    d.second = 0;
-    print_case(rt, b"falling_seqnos", d);
-    d.second = 4294967295;
-    print_case(rt, b"seqno_largest", d);
-    let mut e = state::sound();
-    e.free_seqno = 1;
-    print_case(rt, b"free_slot_equal_seqno", e);
-    e.free_count = 1025;
-    print_case(rt, b"free_slot_count_1025", e);
+fn put_ranges(rt: &impl Print) -> io::Result<()> {
+    put_case(rt, "sound", sound())?;
+    put_case(rt, "ranges_16", sound().with(|c| c.len = 16))?;
+    put_case(rt, "ranges_17", sound().with(|c| c.len = 17))?;
+    put_case(rt, "ranges_wrap", sound().with(|c| c.len = usize::MAX))?;
+    put_case(rt, "equal_seqnos", sound().with(|c| c.second = 1))?;
+    put_case(rt, "falling_seqnos", sound().with(|c| c.second = 0))?;
+    put_case(rt, "seqno_largest", sound().with(|c| c.second = u32::MAX))?;
+    let free_slot = sound().with(|c| c.free_seqno = 1);
+    put_case(rt, "free_slot_equal_seqno", free_slot)?;
+    let counted = free_slot.with(|c| c.free_count = 1025);
+    put_case(rt, "free_slot_count_1025", counted)
 }
 
-fn print_counts(rt: &HostRuntime) {
-    let mut c = state::sound();
-    c.count = 1024;
-    print_case(rt, b"count_1024", c);
-    c.count = 1025;
-    print_case(rt, b"count_1025", c);
-    c.count = 4294967295;
-    print_case(rt, b"count_largest", c);
-    c.present = false;
-    print_case(rt, b"count_largest_absent", c);
-    c.count = 1025;
-    print_case(rt, b"count_1025_absent", c);
-    let mut d = state::sound();
-    d.taken = 2;
-    print_case(rt, b"taken_2_of_1", d);
-    d.taken = 4294967295;
-    print_case(rt, b"taken_largest", d);
-    let mut e = state::sound();
-    e.current = 4294967295;
-    print_case(rt, b"current_largest", e);
+fn put_counts(rt: &impl Print) -> io::Result<()> {
+    put_case(rt, "count_1024", sound().with(|c| c.count = 1024))?;
+    put_case(rt, "count_1025", sound().with(|c| c.count = 1025))?;
+    put_case(rt, "count_largest", sound().with(|c| c.count = u32::MAX))?;
+    let absent = sound().with(|c| c.present = false);
+    let largest_absent = absent.with(|c| c.count = u32::MAX);
+    put_case(rt, "count_largest_absent", largest_absent)?;
+    put_case(rt, "count_1025_absent", absent.with(|c| c.count = 1025))?;
+    put_case(rt, "taken_2_of_1", sound().with(|c| c.taken = 2))?;
+    put_case(rt, "taken_largest", sound().with(|c| c.taken = u32::MAX))?;
+    let current_largest = sound().with(|c| c.current = u32::MAX);
+    put_case(rt, "current_largest", current_largest)
 }
 
-fn print_settings(rt: &HostRuntime) {
-    let mut c = state::sound();
-    c.limit = 1024;
-    print_case(rt, b"limit_1024", c);
-    c.limit = 65534;
-    print_case(rt, b"limit_65534", c);
-    c.limit = 1025;
-    print_case(rt, b"limit_1025", c);
-    c.second = 1;
-    print_case(rt, b"limit_1025_equal_seqnos", c);
-    let mut d = state::sound();
-    d.most = 0;
-    print_case(rt, b"open_0", d);
-    d.most = 16;
-    print_case(rt, b"open_16", d);
-    d.most = 17;
-    print_case(rt, b"open_17", d);
-    d.most = 200;
-    print_case(rt, b"open_200", d);
+fn put_settings(rt: &impl Print) -> io::Result<()> {
+    put_case(rt, "limit_1024", sound().with(|c| c.limit = 1024))?;
+    put_case(rt, "limit_65534", sound().with(|c| c.limit = 65534))?;
+    let limit_1025 = sound().with(|c| c.limit = 1025);
+    put_case(rt, "limit_1025", limit_1025)?;
+    let equal_seqnos = limit_1025.with(|c| c.second = 1);
+    put_case(rt, "limit_1025_equal_seqnos", equal_seqnos)?;
+    put_case(rt, "open_0", sound().with(|c| c.most = 0))?;
+    put_case(rt, "open_16", sound().with(|c| c.most = 16))?;
+    put_case(rt, "open_17", sound().with(|c| c.most = 17))?;
+    put_case(rt, "open_200", sound().with(|c| c.most = 200))
 }
 
-fn print_shards(rt: &HostRuntime) {
-    let mut c = state::sound();
-    c.prefix = 8;
-    print_case(rt, b"prefix_8", c);
-    c.prefix = 4;
-    print_case(rt, b"prefix_4", c);
-    c.prefix = 0;
-    print_case(rt, b"prefix_0", c);
-    let mut d = c;
-    d.limit = 1025;
-    print_case(rt, b"prefix_0_limit_1025", d);
-    c.route = 0;
-    print_case(rt, b"prefix_0_routes_twice", c);
-    c.area = 33791;
-    print_case(rt, b"area_short_prefix_0_routes_twice", c);
+fn put_shards(rt: &impl Print) -> io::Result<()> {
+    put_case(rt, "prefix_8", sound().with(|c| c.prefix = 8))?;
+    put_case(rt, "prefix_4", sound().with(|c| c.prefix = 4))?;
+    let prefix_0 = sound().with(|c| c.prefix = 0);
+    put_case(rt, "prefix_0", prefix_0)?;
+    put_case(rt, "prefix_0_limit_1025", prefix_0.with(|c| c.limit = 1025))?;
+    let twice = prefix_0.with(|c| c.route = 0);
+    put_case(rt, "prefix_0_routes_twice", twice)?;
+    let area_short = twice.with(|c| c.area = SHORT_AREA);
+    put_case(rt, "area_short_prefix_0_routes_twice", area_short)
 }
 
 // The masterchain is one shard; workchain 255 has its byte alone.
-fn print_masterchain(rt: &HostRuntime) {
-    let mut c = state::sound();
-    c.workchain = shard_ident::MASTERCHAIN;
-    print_case(rt, b"masterchain_whole", c);
-    c.prefix = 4611686018427387904;
-    print_case(rt, b"masterchain_half", c);
-    let mut d = c;
-    d.area = 33791;
-    print_case(rt, b"area_short_masterchain_half", d);
-    c.workchain = 255;
-    print_case(rt, b"workchain_255_half", c);
+fn put_masterchain(rt: &impl Print) -> io::Result<()> {
+    let whole = sound().with(|c| c.workchain = shard_ident::MASTERCHAIN);
+    put_case(rt, "masterchain_whole", whole)?;
+    let half = whole.with(|c| c.prefix = HALF);
+    put_case(rt, "masterchain_half", half)?;
+    let area_short = half.with(|c| c.area = SHORT_AREA);
+    put_case(rt, "area_short_masterchain_half", area_short)?;
+    put_case(rt, "workchain_255_half", half.with(|c| c.workchain = 255))
 }
 
 // A named partition: the seventh, and above.
-fn print_partitions(rt: &HostRuntime) {
-    let mut c = state::sound();
-    c.par_id = 7;
-    print_case(rt, b"named_7_absent", c);
-    c.seventh = true;
-    print_case(rt, b"named_7", c);
-    c.par_id = 8;
-    print_case(rt, b"named_8", c);
-    c.par_id = 255;
-    print_case(rt, b"named_255", c);
-    c.second = 1;
-    print_case(rt, b"named_255_equal_seqnos", c);
-    let mut d = state::sound();
-    d.in_last = false;
-    print_case(rt, b"last_range_lacks", d);
-    let mut e = state::sound();
-    e.in_reader = false;
-    print_case(rt, b"reader_lacks", e);
-    let mut f = state::sound();
-    f.seqno = 3;
-    print_case(rt, b"named_range_missing", f);
+fn put_partitions(rt: &impl Print) -> io::Result<()> {
+    put_case(rt, "named_7_absent", sound().with(|c| c.par_id = 7))?;
+    let seventh = sound().with(|c| c.seventh = true);
+    put_case(rt, "named_7", seventh.with(|c| c.par_id = 7))?;
+    put_case(rt, "named_8", seventh.with(|c| c.par_id = 8))?;
+    let named_255 = seventh.with(|c| c.par_id = 255);
+    put_case(rt, "named_255", named_255)?;
+    let equal_seqnos = named_255.with(|c| c.second = 1);
+    put_case(rt, "named_255_equal_seqnos", equal_seqnos)?;
+    put_case(rt, "last_range_lacks", sound().with(|c| c.in_last = false))?;
+    put_case(rt, "reader_lacks", sound().with(|c| c.in_reader = false))?;
+    put_case(rt, "named_range_missing", sound().with(|c| c.seqno = 3))
 }
 
-fn print_lent(rt: &HostRuntime) {
-    let mut c = state::sound();
-    c.area = 33791;
-    print_case(rt, b"area_short", c);
-    let mut d = state::sound();
-    d.active = false;
-    print_case(rt, b"none_open", d);
-    d.mark = true;
-    print_case(rt, b"none_open_mark_set", d);
-    d.cached = 33;
-    print_case(rt, b"none_open_cached_33", d);
-    d.active = true;
-    print_case(rt, b"cached_33", d);
-    d.limit = 1025;
-    print_case(rt, b"cached_33_limit_1025", d);
+fn put_lent(rt: &impl Print) -> io::Result<()> {
+    put_case(rt, "area_short", sound().with(|c| c.area = SHORT_AREA))?;
+    let none_open = sound().with(|c| c.active = false);
+    put_case(rt, "none_open", none_open)?;
+    let mark_set = none_open.with(|c| c.mark = true);
+    put_case(rt, "none_open_mark_set", mark_set)?;
+    let cached_33 = mark_set.with(|c| c.cached = 33);
+    put_case(rt, "none_open_cached_33", cached_33)?;
+    let open = cached_33.with(|c| c.active = true);
+    put_case(rt, "cached_33", open)?;
+    put_case(rt, "cached_33_limit_1025", open.with(|c| c.limit = 1025))
 }
 
-fn print_routes(rt: &HostRuntime) {
-    let mut c = state::sound();
-    c.routes = 8704;
-    print_case(rt, b"routes_256", c);
-    c.routes = 8738;
-    print_case(rt, b"routes_257", c);
-    c.routes = 35;
-    print_case(rt, b"routes_35_bytes", c);
-    let mut d = state::sound();
-    d.route_partition = 8;
-    print_case(rt, b"routes_partition_8", d);
-    let mut e = state::sound();
-    e.route = 0;
-    print_case(rt, b"routes_twice", e);
-    e.limit = 1025;
-    print_case(rt, b"routes_twice_limit_1025", e);
+fn put_routes(rt: &impl Print) -> io::Result<()> {
+    put_case(rt, "routes_256", sound().with(|c| c.routes = 8704))?;
+    put_case(rt, "routes_257", sound().with(|c| c.routes = 8738))?;
+    put_case(rt, "routes_35_bytes", sound().with(|c| c.routes = 35))?;
+    let partition_8 = sound().with(|c| c.route_partition = 8);
+    put_case(rt, "routes_partition_8", partition_8)?;
+    let twice = sound().with(|c| c.route = 0);
+    put_case(rt, "routes_twice", twice)?;
+    let limit_1025 = twice.with(|c| c.limit = 1025);
+    put_case(rt, "routes_twice_limit_1025", limit_1025)
 }
 
-fn print_empty(rt: &HostRuntime) {
-    let mut c = state::sound();
-    c.len = 0;
-    print_case(rt, b"no_ranges", c);
-    c.block_seqno = 0;
-    print_case(rt, b"no_ranges_block_0", c);
-    let mut d = c;
-    d.no_limits = true;
-    print_case(rt, b"no_ranges_no_limits", d);
+fn put_empty(rt: &impl Print) -> io::Result<()> {
+    let no_ranges = sound().with(|c| c.len = 0);
+    put_case(rt, "no_ranges", no_ranges)?;
+    let block_0 = no_ranges.with(|c| c.block_seqno = 0);
+    put_case(rt, "no_ranges_block_0", block_0)?;
+    let no_limits = block_0.with(|c| c.no_limits = true);
+    put_case(rt, "no_ranges_no_limits", no_limits)
 }
 
+fn put_cases(rt: &impl Print) -> io::Result<()> {
+    put_ranges(rt)?;
+    put_counts(rt)?;
+    put_settings(rt)?;
+    put_shards(rt)?;
+    put_masterchain(rt)?;
+    put_partitions(rt)?;
+    put_lent(rt)?;
+    put_routes(rt)?;
+    put_empty(rt)?;
+    lent::put_reads(rt)?;
+    lent::put_limits(rt)
+}
+
+// Where a write fails the cases end, in silence.
 fn main(rt: HostRuntime) {
-    print_ranges(&rt);
-    print_counts(&rt);
-    print_settings(&rt);
-    print_shards(&rt);
-    print_masterchain(&rt);
-    print_partitions(&rt);
-    print_lent(&rt);
-    print_routes(&rt);
-    print_empty(&rt);
-    lent::print_reads(&rt);
-    lent::print_limits(&rt);
+    let _ = put_cases(&rt);
 }

@@ -1,12 +1,12 @@
 // What the cases hand in: a sound reader and what a case changes in it.
-ghost use Rattle.std.specs.Prelude.{◌<◌};
-
-use anchors_cache::AnchorsCacheTransaction;
-use ext_types::{ChainTime, ExternalKey, Seconds};
-use messages_buffer::{ExternalsPartitionRangeReaderState, NO_LIMIT};
-use range_rules::{ExternalsRangeReaderState, LastChainTime};
+use anchors_cache::{AnchorsCache, AnchorsCacheTransaction};
+use cache_rules::AREA_BYTES;
+use ext_types::{ChainTime, ExternalKey, NO_KEY, Seconds};
+use messages_buffer::{ExternalsPartitionRangeReaderState, NO_LIMIT, NO_PARTITION};
+use range_rules::ExternalsRangeReaderState;
 use reader_rules::{
-    ExternalsPartitionReaderState, ExternalsReader, ExternalsReaderState, MsgsExecutionParams,
+    ExternalsPartitionReaderState, ExternalsReader, ExternalsReaderState, MAX_RANGES,
+    MsgsExecutionParams,
 };
 use shard_ident::ShardIdent;
 
@@ -68,7 +68,7 @@ pub fn sound() -> Case {
         par_id: 0,
         seqno: 1,
         taken: 1,
-        area: 33792,
+        area: AREA_BYTES,
         active: true,
         cached: 0,
         routes: 68,
@@ -79,138 +79,120 @@ pub fn sound() -> Case {
 
 fn partition(present: bool, count: u32) -> ExternalsPartitionRangeReaderState {
     ExternalsPartitionRangeReaderState {
-        count: count,
-        skip_offset: 0,
-        processed_offset: 0,
-        present: present,
+        count,
+        present,
+        ..NO_PARTITION
     }
 }
 
-// A range that is not at its end; `zero` says whether it has partition 0, and `first` is the count of it.
-fn range(c: Case, seqno: u32, zero: bool, first: u32) -> ExternalsRangeReaderState {
-    let mut all = [partition(false, 0); 8];
-    let of_zero = partition(zero, first);
-    let of_three = partition(c.present, c.count);
-    let of_seven = partition(c.seventh, 1);
-    all[0] = of_zero;
-    all[3] = of_three;
-    all[7] = of_seven;
-    let to = ExternalKey {
-        anchor_id: 1,
-        msgs_offset: 0,
-    };
-    let from = ExternalKey {
-        anchor_id: 0,
-        msgs_offset: 0,
-    };
-    ExternalsRangeReaderState {
-        seqno: seqno,
-        from: from,
-        to: to,
-        current_position: from,
-        chain_time: ChainTime(1000),
-        fully_read: false,
-        by_partitions: all,
-    }
-}
-
-// The seqnos are 1, 2, and so on, but for the case's.
-fn slot(c: Case, i: usize) -> ExternalsRangeReaderState
-    requires { i < 16 }
-{
-    match i {
-        1 => range(c, c.second, c.in_last, 1),
-        5 => range(c, c.free_seqno, true, c.free_count),
-        _ => range(c, i as u32 + 1, true, 1),
-    }
-}
-
-fn ranges(c: Case) -> [ExternalsRangeReaderState; 16] {
-    let first = slot(c, 0);
-    let mut all = [first; 16];
-    let mut i = 0;
-    while i < 16 {
-        let r = slot(c, i);
-        all[i] = r;
-        i += 1;
-    }
-    all
-}
-
-fn reader_partition(present: bool, current: u32) -> ExternalsPartitionReaderState {
-    let key = ExternalKey {
-        anchor_id: 0,
-        msgs_offset: 0,
-    };
+fn reader_partition(present: bool, curr_processed_offset: u32) -> ExternalsPartitionReaderState {
     ExternalsPartitionReaderState {
-        processed_to: key,
-        curr_processed_offset: current,
-        present: present,
+        processed_to: NO_KEY,
+        curr_processed_offset,
+        present,
     }
 }
 
-fn partitions(c: Case) -> [ExternalsPartitionReaderState; 8] {
-    let mut all = [reader_partition(false, 0); 8];
-    if c.no_limits {
-        return all;
+impl Case {
+    // The same but for what is changed.
+    pub fn with<F: FnOnce(&mut Case)>(mut self, change: F) -> Case
+        requires { F.IsAlwaysCallable change }
+    {
+        change(&mut self);
+        self
     }
-    let of_zero = reader_partition(c.in_reader, c.current);
-    let of_three = reader_partition(c.present, 0);
-    let of_seven = reader_partition(c.seventh, 0);
-    all[0] = of_zero;
-    all[3] = of_three;
-    all[7] = of_seven;
-    all
-}
 
-pub fn limits(c: Case) -> [u16; 8] {
-    let mut all = [NO_LIMIT; 8];
-    if c.no_limits {
-        return all;
+    // A range that is not at its end; `zero` says whether it has partition 0, and `first` is the count of it.
+    fn range(self, seqno: u32, zero: bool, first: u32) -> ExternalsRangeReaderState {
+        let mut by_partitions = [NO_PARTITION; 8];
+        by_partitions[0] = partition(zero, first);
+        by_partitions[3] = partition(self.present, self.count);
+        by_partitions[7] = partition(self.seventh, 1);
+        ExternalsRangeReaderState {
+            seqno,
+            from: NO_KEY,
+            to: ExternalKey {
+                anchor_id: 1,
+                msgs_offset: 0,
+            },
+            current_position: NO_KEY,
+            chain_time: ChainTime(1000),
+            fully_read: false,
+            by_partitions,
+        }
     }
-    all[0] = 9;
-    all[3] = c.limit;
-    all[7] = 9;
-    all
-}
 
-pub fn reader(c: Case) -> ExternalsReader {
-    let last = LastChainTime::Nothing;
-    let all = ranges(c);
-    let parts = partitions(c);
-    let state = ExternalsReaderState {
-        ranges: all,
-        len: c.len,
-        by_partitions: parts,
-        last_read_to_anchor_chain_time: last,
-    };
-    let shard = ShardIdent {
-        workchain: c.workchain,
-        prefix: c.prefix,
-    };
-    let params = MsgsExecutionParams {
-        externals_expire_timeout: Seconds(60),
-        open_ranges_limit: c.most,
-        new_is_some: c.waiting,
-    };
-    let most = limits(c);
-    ExternalsReader {
-        for_shard_id: shard,
-        block_seqno: c.block_seqno,
-        next_chain_time: ChainTime(1000),
-        msgs_exec_params: params,
-        buffer_limits_by_partitions: most,
-        reader_state: state,
-        all_ranges_fully_read: c.mark,
+    // The seqnos are 1, 2, and so on, but for the case's.
+    fn ranges(self) -> [ExternalsRangeReaderState; MAX_RANGES] {
+        let mut all = [self.range(1, true, 1); MAX_RANGES];
+        for (range, seqno) in all.iter_mut().zip(1..=16) {
+            range.seqno = seqno;
+        }
+        all[1] = self.range(self.second, self.in_last, 1);
+        all[5] = self.range(self.free_seqno, true, self.free_count);
+        all
     }
-}
 
-// An empty cache, unless the case says that anchors are there.
-pub fn transaction(c: Case) -> AnchorsCacheTransaction {
-    let mut t = anchors_cache::new();
-    let mut cache = t.cache;
-    cache.len = c.cached;
-    t.cache = cache;
-    t.active = c.active;
-    t
+    fn partitions(self) -> [ExternalsPartitionReaderState; 8] {
+        let mut all = [reader_partition(false, 0); 8];
+        if self.no_limits {
+            return all;
+        }
+        all[0] = reader_partition(self.in_reader, self.current);
+        all[3] = reader_partition(self.present, 0);
+        all[7] = reader_partition(self.seventh, 0);
+        all
+    }
+
+    pub fn limits(self) -> [u16; 8] {
+        let mut all = [NO_LIMIT; 8];
+        if self.no_limits {
+            return all;
+        }
+        all[0] = 9;
+        all[3] = self.limit;
+        all[7] = 9;
+        all
+    }
+
+    pub fn params(self) -> MsgsExecutionParams {
+        MsgsExecutionParams {
+            externals_expire_timeout: Seconds(60),
+            open_ranges_limit: self.most,
+            new_is_some: self.waiting,
+        }
+    }
+
+    pub fn reader(self) -> ExternalsReader {
+        ExternalsReader {
+            for_shard_id: ShardIdent {
+                workchain: self.workchain,
+                prefix: self.prefix,
+            },
+            block_seqno: self.block_seqno,
+            next_chain_time: ChainTime(1000),
+            msgs_exec_params: self.params(),
+            buffer_limits_by_partitions: self.limits(),
+            reader_state: ExternalsReaderState {
+                ranges: self.ranges(),
+                len: self.len,
+                by_partitions: self.partitions(),
+                last_read_to_anchor_chain_time: None,
+            },
+            all_ranges_fully_read: self.mark,
+        }
+    }
+
+    // An empty cache, unless the case says that anchors are there.
+    pub fn transaction(self) -> AnchorsCacheTransaction {
+        let t = anchors_cache::new();
+        AnchorsCacheTransaction {
+            cache: AnchorsCache {
+                len: self.cached,
+                ..t.cache
+            },
+            active: self.active,
+            ..t
+        }
+    }
 }

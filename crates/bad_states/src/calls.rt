@@ -1,215 +1,146 @@
-// Every call of the cache on one state, and the numbers that they answer.
+// Every call of the cache on one state, and what they answer.
 use crate::state;
-use anchors_cache::{AnchorInfo, AnchorsCacheTransaction, Done, MempoolAnchor};
+use anchors_cache::{AnchorInfo, AnchorsCacheTransaction, MempoolAnchor};
 use ext_types::{ChainTime, ExternalKey};
+use refusals::Refusal;
+use std::fmt;
+
+// How many bytes of the tables and of the area are lent, and the state that is handed in.
+#[derive(Clone, Copy)]
+pub struct Case {
+    pub tables: usize,
+    pub area: usize,
+    pub t: AnchorsCacheTransaction,
+}
 
 // An anchor to be added, with so many bytes of messages.
-#[derive(Clone, Copy)]
+#[derive(Clone, Copy, Debug)]
 pub struct New {
     pub id: u32,
     pub ours: u32,
     pub bytes: usize,
 }
 
-// Stands for the number of a call that was refused and changed something.
-pub const CHANGED: u8 = 255;
-
-// The number; a refused call answers the state that it was handed.
-fn answered(t: AnchorsCacheTransaction, done: Done) -> u8 {
-    let s = done.state;
-    if done.number == 0 {
-        return 0;
-    }
-    if state::same(t, s) {
-        return done.number;
-    }
-    CHANGED
+// The number of a call; or a refused one changed what it was lent.
+#[derive(Clone, Copy, Debug, PartialEq, Eq)]
+pub enum Answer {
+    Number(u8),
+    Changed,
 }
 
-fn add_part(
-    tables: &mut [u8],
-    area: &mut [u8],
-    t: AnchorsCacheTransaction,
-    new: New,
-    messages: &[u8],
-) -> u8 {
-    let anchor = MempoolAnchor {
-        id: new.id,
-        chain_time: ChainTime(5000),
-        author: [9u8; 32],
-    };
-    answered(
-        t,
-        anchors_cache::add(tables, area, t, anchor, new.ours, messages),
-    )
+impl fmt::Display for Answer {
+    fn fmt<W: fmt::Write>(&self, f: &mut fmt::Formatter<W>) -> fmt::Result {
+        match self {
+            Answer::Number(number) => write!(f, "{number}"),
+            Answer::Changed => write!(f, "changed"),
+        }
+    }
 }
 
-// n bytes of the tables are lent, and m of the area.
-fn add_lent(
-    tables: &mut [u8],
-    area: &mut [u8],
-    n: usize,
-    m: usize,
-    t: AnchorsCacheTransaction,
-    new: New,
-    messages: &[u8],
-) -> u8 {
-    let k = new.bytes;
-    if tables.len() < n {
-        return CHANGED;
-    }
-    if area.len() < m {
-        return CHANGED;
-    }
-    if messages.len() < k {
-        return CHANGED;
-    }
-    add_part(&mut tables[0..n], &mut area[0..m], t, new, &messages[0..k])
+fn number<T: Copy>(answer: Result<T, Refusal>) -> u8 {
+    answer.err().map_or(0, u8::from)
 }
 
 // A refused add leaves every byte of tables and area.
-pub fn add(n: usize, m: usize, t: AnchorsCacheTransaction, new: New) -> u8 {
+pub fn add(case: Case, new: New) -> Answer {
     let mut tables = state::tables();
     let mut area = state::area();
-    let messages = [9u8; 16929];
-    let number = add_lent(&mut tables, &mut area, n, m, t, new, &messages);
-    if number == 0 {
-        return 0;
+    let (n, m) = (case.tables.min(tables.len()), case.area.min(area.len()));
+    let messages = [9; 16_929];
+    let k = new.bytes.min(messages.len());
+    let anchor = MempoolAnchor {
+        id: new.id,
+        chain_time: ChainTime(5000),
+        author: [9; 32],
+    };
+    let added = anchors_cache::add(
+        &mut tables[..n],
+        &mut area[..m],
+        case.t,
+        anchor,
+        new.ours,
+        &messages[..k],
+    );
+    if added.is_err() && (tables != state::tables() || area != state::area()) {
+        return Answer::Changed;
     }
-    let tables_before = state::tables();
-    let area_before = state::area();
-    if !check::same(&tables, &tables_before) {
-        return CHANGED;
-    }
-    if !check::same(&area, &area_before) {
-        return CHANGED;
-    }
-    number
+    Answer::Number(number(added))
 }
 
-fn info_part(tables: &mut [u8], area: &[u8], t: AnchorsCacheTransaction) -> u8 {
-    let e = AnchorInfo {
+// An entry to the history alone; a refused one leaves every byte of the tables.
+fn add_info(case: Case) -> Answer {
+    let mut tables = state::tables();
+    let area = state::area();
+    let (n, m) = (case.tables.min(tables.len()), case.area.min(area.len()));
+    let info = AnchorInfo {
         id: 1000,
         ct: ChainTime(5000),
         all_exts_count: 1,
         our_exts_count: 1,
     };
-    answered(
-        t,
-        anchors_cache::add_imported_anchor_info(tables, area, t, e, [9u8; 32]),
-    )
-}
-
-fn info_lent(tables: &mut [u8], area: &[u8], n: usize, m: usize, t: AnchorsCacheTransaction) -> u8 {
-    if tables.len() < n {
-        return CHANGED;
+    let added = anchors_cache::add_imported_anchor_info(
+        &mut tables[..n],
+        &area[..m],
+        case.t,
+        info,
+        [9; 32],
+    );
+    if added.is_err() && tables != state::tables() {
+        return Answer::Changed;
     }
-    if area.len() < m {
-        return CHANGED;
-    }
-    info_part(&mut tables[0..n], &area[0..m], t)
+    Answer::Number(number(added))
 }
 
-// An entry to the history alone; a refused one leaves every byte of the tables.
-fn add_info(n: usize, m: usize, t: AnchorsCacheTransaction) -> u8 {
-    let mut tables = state::tables();
-    let area = state::area();
-    let number = info_lent(&mut tables, &area, n, m, t);
-    if number == 0 {
-        return 0;
-    }
-    let before = state::tables();
-    if !check::same(&tables, &before) {
-        return CHANGED;
-    }
-    number
+// Of the calls that are lent tables and area as they are.
+fn changes(tables: &[u8], area: &[u8], t: AnchorsCacheTransaction) -> [u8; 9] {
+    [
+        number(anchors_cache::pop_front(tables, area, t)),
+        number(anchors_cache::pop_fronts(tables, area, t, 2)),
+        number(anchors_cache::remove_last_imported_above(tables, area, t, ChainTime(5000))),
+        number(anchors_cache::clear(tables, area, t)),
+        number(anchors_cache::open(tables, area, t)),
+        number(anchors_cache::commit(tables, area, t)),
+        number(anchors_cache::rollback(tables, area, t)),
+        number(anchors_cache::close(tables, area, t)),
+        number(anchors_cache::check_cache(tables, area, t)),
+    ]
 }
 
-fn pop_front(tables: &[u8], area: &[u8], t: AnchorsCacheTransaction) -> Done {
-    let a = anchors_cache::pop_front(tables, area, t);
-    let s = a.state;
-    Done {
-        number: a.number,
-        state: s,
-    }
-}
-
-fn trim(tables: &[u8], area: &[u8], t: AnchorsCacheTransaction) -> Done {
-    let a = anchors_cache::remove_last_imported_above(tables, area, t, ChainTime(5000));
-    let s = a.state;
-    Done {
-        number: a.number,
-        state: s,
-    }
-}
-
-fn ask_cache(numbers: &mut [u8; 17], tables: &[u8], area: &[u8], t: AnchorsCacheTransaction) {
-    numbers[1] = answered(t, pop_front(tables, area, t));
-    numbers[2] = answered(t, anchors_cache::pop_fronts(tables, area, t, 2));
-    numbers[3] = answered(t, trim(tables, area, t));
-    numbers[4] = answered(t, anchors_cache::clear(tables, area, t));
-}
-
-fn ask_transaction(numbers: &mut [u8; 17], tables: &[u8], area: &[u8], t: AnchorsCacheTransaction) {
-    numbers[5] = answered(t, anchors_cache::open(tables, area, t));
-    numbers[6] = answered(t, anchors_cache::commit(tables, area, t));
-    numbers[7] = answered(t, anchors_cache::rollback(tables, area, t));
-    numbers[8] = answered(t, anchors_cache::close(tables, area, t));
-    numbers[9] = anchors_cache::check_cache(tables, area, t);
-}
-
-fn ask_infos(numbers: &mut [u8; 17], tables: &[u8], t: AnchorsCacheTransaction) {
-    let last = anchors_cache::last_imported_anchor_info(tables, t);
-    numbers[10] = last.number;
-    let at_ct = anchors_cache::last_imported_anchor_info_at_ct(tables, t, ChainTime(5000));
-    numbers[11] = at_ct.number;
-    let id = anchors_cache::get_last_imported_anchor_id_and_ct(tables, t);
-    numbers[12] = id.number;
-    let front = anchors_cache::get(tables, t, 0);
-    numbers[13] = front.number;
-    let pending = anchors_cache::has_pending_externals(tables, t);
-    numbers[14] = pending.number;
+// Of the calls that are lent no area.
+fn looks(tables: &[u8], t: AnchorsCacheTransaction) -> [u8; 6] {
     let up_to = ExternalKey {
         anchor_id: 2,
         msgs_offset: 0,
     };
-    let in_range = anchors_cache::check_has_pending_externals_in_range(tables, t, up_to);
-    numbers[15] = in_range.number;
+    [
+        number(anchors_cache::last_imported_anchor_info(tables, t)),
+        number(anchors_cache::last_imported_anchor_info_at_ct(tables, t, ChainTime(5000))),
+        number(anchors_cache::get_last_imported_anchor_id_and_ct(tables, t)),
+        number(anchors_cache::get(tables, t, 0)),
+        number(anchors_cache::has_pending_externals(tables, t)),
+        number(anchors_cache::check_has_pending_externals_in_range(tables, t, up_to)),
+    ]
 }
 
-fn ask_lent(
-    numbers: &mut [u8; 17],
-    tables: &[u8],
-    area: &[u8],
-    n: usize,
-    m: usize,
-    t: AnchorsCacheTransaction,
-) {
-    if tables.len() < n {
-        return;
+// The answers on the case, in the order of the README.
+impl fmt::Display for Case {
+    fn fmt<W: fmt::Write>(&self, f: &mut fmt::Formatter<W>) -> fmt::Result {
+        let tables = state::tables();
+        let area = state::area();
+        let tables = &tables[..self.tables.min(tables.len())];
+        let area = &area[..self.area.min(area.len())];
+        let new = New {
+            id: 1000,
+            ours: 1,
+            bytes: 33,
+        };
+        write!(f, "{}", add(*self, new))?;
+        for number in changes(tables, area, self.t) {
+            write!(f, " {number}")?;
+        }
+        for number in looks(tables, self.t) {
+            write!(f, " {number}")?;
+        }
+        write!(f, " {}", add_info(*self))
     }
-    if area.len() < m {
-        return;
-    }
-    let part = &tables[0..n];
-    let places = &area[0..m];
-    ask_cache(numbers, part, places, t);
-    ask_transaction(numbers, part, places, t);
-    ask_infos(numbers, part, t);
-}
-
-// The numbers in the order of the README.
-pub fn numbers(n: usize, m: usize, t: AnchorsCacheTransaction) -> [u8; 17] {
-    let new = New {
-        id: 1000,
-        ours: 1,
-        bytes: 33,
-    };
-    let mut all = [CHANGED; 17];
-    all[0] = add(n, m, t, new);
-    all[16] = add_info(n, m, t);
-    let tables = state::tables();
-    let area = state::area();
-    ask_lent(&mut all, &tables, &area, n, m, t);
-    all
 }

@@ -1,21 +1,20 @@
 // What the cases hand in: tables with sound and unsound anchor rows, an area, windows on them.
-ghost use Rattle.std.specs.Prelude.{◌<◌};
+use anchors_cache::{AnchorsCache, AnchorsCacheTransaction, HISTORY_BYTES, TABLES_BYTES};
 
-use anchors_cache::{AnchorsCache, AnchorsCacheTransaction};
+// The longest area that is lent.
+pub const LONG_AREA: usize = 40_000;
 
 // Rows 3 and 4 have one id, row 12 has one below that of row 11.
-fn id_of(i: u64) -> u64
-    requires { i < 32 }
-{
+fn id_of(i: u32) -> u32 {
     match i {
         4 => 4,
         12 => 5,
-        _ => i + 1,
+        _ => i.wrapping_add(1),
     }
 }
 
 // None in row 5, more than there are messages in row 6, all of the messages in row 15.
-fn ours_of(i: u64) -> u64 {
+fn ours_of(i: u32) -> u32 {
     match i {
         5 => 0,
         6 => 2,
@@ -25,7 +24,7 @@ fn ours_of(i: u64) -> u64 {
 }
 
 // Row 7 is above the cap of an anchor, row 8 at it; rows 8 and 9 are at the cap of the cache, rows 8 to 10 above it.
-fn count_of(i: u64) -> u64 {
+fn count_of(i: u32) -> u32 {
     match i {
         0 => 2,
         1 => 3,
@@ -39,29 +38,22 @@ fn count_of(i: u64) -> u64 {
     }
 }
 
-// 13,312 bytes of history stand before the anchors' rows of 50 bytes.
-fn put_row(tables: &mut [u8; 14912], i: u64)
-    requires { i < 32 }
-{
-    let at = 13312 + 50 * i as usize;
-    rows::put_le(tables, at, id_of(i), 4);
-    rows::put_le(tables, at + 44, ours_of(i), 4);
-    rows::put_le(tables, at + 48, count_of(i), 2);
-}
-
-pub fn tables() -> [u8; 14912] {
-    let mut all = [7u8; 14912];
-    for i in 0..32u64 {
-        put_row(&mut all, i);
+// The anchors' rows of 50 bytes stand behind the history.
+pub fn tables() -> [u8; TABLES_BYTES] {
+    let mut all = [7; TABLES_BYTES];
+    for (i, row) in (0..32).zip(all[HISTORY_BYTES..].chunks_exact_mut(50)) {
+        rows::put_le(row, 0, u64::from(id_of(i)), 4);
+        rows::put_le(row, 44, u64::from(ours_of(i)), 4);
+        rows::put_le(row, 48, u64::from(count_of(i)), 2);
     }
     all
 }
 
 // Not all alike, so that a move within the area would show.
-pub fn area() -> [u8; 40000] {
-    let mut all = [0u8; 40000];
-    for i in 0..40000usize {
-        all[i] = (i % 251) as u8;
+pub fn area() -> [u8; LONG_AREA] {
+    let mut all = [0; LONG_AREA];
+    for (i, byte) in all.iter_mut().enumerate() {
+        *byte = (i % 251) as u8;
     }
     all
 }
@@ -80,35 +72,37 @@ pub fn sound() -> AnchorsCache {
 
 // The sound window but for its anchors; pending stays set, so with none it is wrong.
 pub fn anchors(first: usize, len: usize) -> AnchorsCache {
-    let mut w = sound();
-    w.first = first;
-    w.len = len;
-    w
+    AnchorsCache {
+        first,
+        len,
+        ..sound()
+    }
 }
 
-pub fn history(first: usize, len: usize) -> AnchorsCache {
-    let mut w = sound();
-    w.history_first = first;
-    w.history_len = len;
-    w
+pub fn history(history_first: usize, history_len: usize) -> AnchorsCache {
+    AnchorsCache {
+        history_first,
+        history_len,
+        ..sound()
+    }
 }
 
 pub fn messages(first: usize, base: usize) -> AnchorsCache {
-    let mut w = anchors(first, 1);
-    w.base = base;
-    w
+    AnchorsCache {
+        base,
+        ..anchors(first, 1)
+    }
 }
 
 pub fn based(base: usize) -> AnchorsCache {
-    let mut w = sound();
-    w.base = base;
-    w
+    AnchorsCache { base, ..sound() }
 }
 
 pub fn not_pending() -> AnchorsCache {
-    let mut w = sound();
-    w.pending = false;
-    w
+    AnchorsCache {
+        pending: false,
+        ..sound()
+    }
 }
 
 // None cached, and each table's end named.
@@ -124,38 +118,21 @@ pub fn empty_at_end() -> AnchorsCache {
 }
 
 // A cache with no transaction open.
-pub fn present(w: AnchorsCache) -> AnchorsCacheTransaction {
-    let c = sound();
+pub fn present(cache: AnchorsCache) -> AnchorsCacheTransaction {
     AnchorsCacheTransaction {
-        cache: w,
-        undo: c,
+        cache,
+        undo: sound(),
         active: false,
         committed: false,
     }
 }
 
 // The sound cache, with what a rollback would restore if a transaction is open.
-pub fn restorable(w: AnchorsCache, active: bool) -> AnchorsCacheTransaction {
-    let c = sound();
+pub fn restorable(undo: AnchorsCache, active: bool) -> AnchorsCacheTransaction {
     AnchorsCacheTransaction {
-        cache: c,
-        undo: w,
-        active: active,
+        cache: sound(),
+        undo,
+        active,
         committed: false,
     }
-}
-
-pub fn same(a: AnchorsCacheTransaction, b: AnchorsCacheTransaction) -> bool {
-    let cache = a.cache;
-    let undo = a.undo;
-    if !anchors_cache::same_window(cache, b.cache) {
-        return false;
-    }
-    if !anchors_cache::same_window(undo, b.undo) {
-        return false;
-    }
-    if a.active != b.active {
-        return false;
-    }
-    a.committed == b.committed
 }

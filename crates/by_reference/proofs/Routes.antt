@@ -1,26 +1,33 @@
 -- Laws of the search in route records, and that it answers as the router does on rows of 34 bytes.
 use Prim.Native.Nat.{ℕ, zero, suc, ◌+◌, ◌-◌, ◌*◌, ◌/◌, ◌%◌, ◌<◌, ◌≤◌}
 use mathlib.Core.Path.{◌≡◌, refl, sym, ◌∙◌, ap, subst}
-use mathlib.Core.Bool.{Bool, true, false, not, ◌&&◌, ◌||◌}
+use mathlib.Core.Bool.{Bool, true, false, cond, ◌&&◌, ◌||◌}
 use mathlib.Core.List.{List, [], ◌∷◌, ◌++◌, map, append_assoc, append-nil}
 use native.Mathlib.Omega.{arith}
 use native.Mathlib.Numerals.{add-one}
+use Rattle.std.specs.List.{list_any, find}
+use Rattle.std.specs.Option.{MatchOption, option_map}
 use lib.Dec.{eqb, ltb}
+use lib.Pointwise.{pointwise}
 use lib.IntN.{ℤ, pos, negsuc}
-use lib.ListN.{length, get_or, take, drop, set, length-set, length-take, length-drop, length-append, length-map, drop_of_length-le}
-use lib.Seq.{take-length, drop-cons, get_or-drop, get_or-take, length-take-le, take-suc-set, take_at, drop_at, get_or_at}
+use lib.ListN.{length, get_or, take, drop, set, length-set, length-drop, length-append, length-map, drop_of_length-le}
+use lib.Seq.{take-length, drop-cons, get_or-drop, length-take-le, take-suc, take-suc-set, take_at, drop_at, get_or_at}
 use mir.Syntax.{w8}
 use mir.Val.{SFits}
-use borrow.Author.Tests.{ltb-true, lt-ltb, le-ltb, lt-leb, le-leb}
+use borrow.Author.Tests.{ltb-true, lt-ltb, le-ltb}
 use Rattle.rows.specs.Rows.{pick, same_bytes, starts_with, rows}
-use Rattle.rows.proofs.Laws.{pick_yes, pick_no, never, no_later}
+use Rattle.rows.proofs.Laws.{pick_yes, pick_no, never}
 use Rattle.shard_ident.specs.Shard.{signed_byte, equalℤ}
 use Rattle.shard_ident.proofs.Signed.{equal_self, equal_differ, same_signed}
 use Rattle.router.proofs.Laws.{question_3_of_one_row_more, the_first_rows_of_a_table_that_passes_question_3_pass_it}
-use Rattle.router.specs.Router.{max_routes, address_of, route_partition_of, listed, none_twice, partitions_exist, sound_routes, routes_number, first_partition, unless_refused, get_partition, partition_of as rows_partition}
-use Rattle.by_reference.specs.Search.{same_route, first_partition_in, listed_in, takes_one, takes_all, records_number, get_partition_in, nothing_walked, takes_route, with_route, refused_walk, walked_on, walked_over, walk_answer, route_of, routes_of, byte_of, route_row, rows_of}
+use Rattle.router.specs.Router.{answer_of, max_routes, address_of, route_partition_of, listed, none_twice, partitions_exist, sound_routes, routes_number, first_partition, unless_refused, get_partition, partition_of as rows_partition}
+use Rattle.std.specs.Prelude.{Option, Some, None, Result}
+use Rattle.std.specs.Result.{IsErr, IsErrAnd}
+use Rattle.refusals.specs.declared.Refusal.{Refusal}
+use Rattle.refusals.specs.Refusals.{number_of}
+use Rattle.refusals.proofs.Laws.{refused_is_not_done, handed_on}
+use Rattle.by_reference.specs.Search.{Walk, same_route, first_partition_in, listed_in, takes_one, takes_all, records_number, get_partition_in, nothing_walked, takes_route, with_route, refused_walk, walked_on, walked_over, walk_answer, route_of, routes_of, byte_of, route_row, rows_of}
 use Rattle.by_reference.specs.declared.Route.{Route}
-use Rattle.by_reference.specs.declared.Walk.{Walk}
 
 -- what stands past the end of a list
 abbrev pub no_route : Route
@@ -30,40 +37,73 @@ pub walk_step : (w : ℤ) (a : List ℕ) (s : Walk) (l : List Route) (i : ℕ) �
 walk_step w a s l i h = ap (walked_over w a s) (drop-cons l i no_route h)
 
 -- ---- among the first records
-module _ (w : ℤ) (a : List ℕ) (l : List Route) (n i : ℕ) where
-  listed_step : i < n → n ≤ length l → listed_in w a (drop i (take n l)) ≡ pick (same_route (get_or l i no_route) w a) true (listed_in w a (drop (suc i) (take n l)))
-  unfolding listed_in
-  listed_step h k =
-      ap (listed_in w a) (drop-cons (take n l) i no_route (omega (arith, h, k, length-take n l)))
-      ∙ ap (λ (r : Route). pick (same_route r w a) true (listed_in w a (drop (suc i) (take n l)))) (get_or-take n l i no_route h)
+pub any_listed : (w : ℤ) (a : List ℕ) (l : List Route) → list_any (λ q. same_route q w a) l ≡ listed_in w a l
+unfolding listed_in
+any_listed w a [] = refl
+any_listed w a (r ∷ l) = go (same_route r w a) (any_listed w a l)
+  where
+    go : (b : Bool) → list_any (λ q. same_route q w a) l ≡ listed_in w a l → (b || list_any (λ q. same_route q w a) l) ≡ pick b true (listed_in w a l)
+    go true e = refl
+    go false e = e
 
-  pub listed_here : i < n → n ≤ length l → same_route (get_or l i no_route) w a ≡ true → listed_in w a (drop i (take n l)) ≡ true
-  listed_here h k e = listed_step h k ∙ pick_yes _ _ _ e
+-- ---- question 3, record by record
+module _ (l : List Route) (i : ℕ) where
+  pub one_more : i < length l → takes_all (take i l) (drop i l) ≡ (takes_one (take i l) (get_or l i no_route) && takes_all (take (i + 1) l) (drop (i + 1) l))
+  unfolding takes_all
+  one_more h =
+      ap (takes_all (take i l)) (drop-cons l i no_route h)
+      ∙ rw (add-one i, take-suc l i no_route h)
 
-  pub listed_behind : i < n → n ≤ length l → same_route (get_or l i no_route) w a ≡ false → listed_in w a (drop (i + 1) (take n l)) ≡ listed_in w a (drop i (take n l))
-  listed_behind h k e = ap (λ (j : ℕ). listed_in w a (drop j (take n l))) (add-one i) ∙ sym (listed_step h k ∙ pick_no _ _ _ e)
+  pub takes_more : i < length l → takes_one (take i l) (get_or l i no_route) ≡ true → takes_all (take i l) (drop i l) ≡ takes_all [] l → takes_all (take (i + 1) l) (drop (i + 1) l) ≡ takes_all [] l
+  takes_more h e so_far = sym (ap (λ (b : Bool). b && takes_all (take (i + 1) l) (drop (i + 1) l)) e) ∙ sym (one_more h) ∙ so_far
 
-  pub listed_end : n ≤ i → listed_in w a (drop i (take n l)) ≡ false
-  unfolding listed_in
-  listed_end h = ap (listed_in w a) (drop_of_length-le (take n l) {i = i} (omega (arith, h, length-take n l)))
+  pub refused_at : i < length l → takes_one (take i l) (get_or l i no_route) ≡ false → takes_all (take i l) (drop i l) ≡ takes_all [] l → 3 ≡ records_number l
+  unfolding records_number
+  refused_at h e so_far = ap (λ (b : Bool). pick b 0 3) (sym (ap (λ (b : Bool). b && takes_all (take (i + 1) l) (drop (i + 1) l)) e) ∙ sym (one_more h) ∙ so_far)
 
--- ---- question 3 of one record more
-module _ (w : Walk) (r : Route) where
-  pub not_sound : w.sound ≡ false → false ≡ takes_route w r
-  unfolding takes_route
-  not_sound e = rw e
+  pub none_refused : length l ≤ i → takes_all (take i l) (drop i l) ≡ takes_all [] l → 0 ≡ records_number l
+  unfolding records_number takes_all
+  none_refused h so_far = ap (λ (b : Bool). pick b 0 3) (ap (takes_all (take i l)) (sym (drop_of_length-le l {i = i} h)) ∙ so_far)
 
-  pub too_many : max_routes ≤ w.len → false ≡ takes_route w r
-  unfolding takes_route
-  too_many h = rw (le-ltb w.len max_routes h) (no_later w.sound false refl)
+-- ---- the call
+-- a refusal gives only its number
+alone : (n p : ℕ) → (n ≡ 0 → ⊥) → unless_refused n p ≡ record { number = n; value = 0 }
+unfolding unless_refused
+alone zero p h = absurd (h refl)
+alone (suc k) p h = refl
 
-  pub too_high : 7 < r.partition → false ≡ takes_route w r
-  unfolding takes_route
-  too_high h = rw (lt-leb r.partition 7 h) (no_later w.sound false refl ∙ ap (λ (b : Bool). w.sound && b) (no_later (ltb w.len max_routes) false refl))
+module _ (l : List Route) (z : ℤ) (a : List ℕ) where
+  -- what `check_routes` answered is handed on
+  pub refused_on : (q : Result ℕ Refusal) (r : Refusal) → IsErr q × IsErrAnd q (λ x. x ≡ r) → number_of r ≡ records_number l → answer_of q ≡ get_partition_in l z a
+  unfolding get_partition_in
+  refused_on q r h e = ap answer_of (handed_on q r h) ∙ sym (alone (number_of r) (first_partition_in l z a) (refused_is_not_done r)) ∙ ap (λ (n : ℕ). unless_refused n (first_partition_in l z a)) e
 
-  pub asked_of_one : w.sound ≡ true → w.len < max_routes → r.partition ≤ 7 → not (listed_in r.workchain r.account (take w.len w.routes)) ≡ takes_route w r
-  unfolding takes_route
-  asked_of_one e h k = rw (e, lt-ltb w.len max_routes h, le-leb r.partition 7 k)
+  pub answered : (p : ℕ) → p ≡ first_partition_in l z a → 0 ≡ records_number l → record { number = 0; value = p } ≡ get_partition_in l z a
+  unfolding get_partition_in unless_refused
+  answered p e passed = ap (λ (v : ℕ). record { number = 0; value = v }) e ∙ ap (λ (n : ℕ). unless_refused n (first_partition_in l z a)) passed
+
+-- ---- the first record for the workchain and the account
+abbrev first_of : Option Route → ℕ
+first_of None = 0
+first_of (Some r) = r.partition
+
+first_found : (l : List Route) (z : ℤ) (a : List ℕ) → first_of (find (λ q. same_route q z a) l) ≡ first_partition_in l z a
+first_found [] z a = refl
+first_found (r ∷ l) z a = go (same_route r z a) (first_found l z a)
+  where
+    go : (b : Bool) → first_of (find (λ q. same_route q z a) l) ≡ first_partition_in l z a → first_of (cond b (Some r) (find (λ q. same_route q z a) l)) ≡ pick b r.partition (first_partition_in l z a)
+    go true e = refl
+    go false e = e
+
+-- its partition, or 0 where none is found
+pub partition_of_found : {A : Type 0} (v : A → Route) (found : Option A) (p : ℕ) (Q : A → Type 0) (l : List Route) (z : ℤ) (a : List ℕ) → ((x : A) → Q x → p ≡ (v x).partition) → MatchOption found (p ≡ 0) Q → option_map v found ≡ find (λ q. same_route q z a) l → p ≡ first_partition_in l z a
+partition_of_found v None p Q l z a k h e = h ∙ ap first_of e ∙ first_found l z a
+partition_of_found v (Some x) p Q l z a k h e = k x h ∙ ap first_of e ∙ first_found l z a
+
+-- ---- one record more
+not_sound : (w : Walk) (r : Route) → w.sound ≡ false → false ≡ takes_route w r
+unfolding takes_route
+not_sound w r e = rw e
 
 module _ (z : ℤ) (a : List ℕ) (w : Walk) (r : Route) where
   pub is_not_taken : takes_route w r ≡ false → refused_walk w ≡ walked_on z a w r
@@ -172,6 +212,21 @@ module _ (z : ℤ) (a : List ℕ) where
 -- ---- one route
 pub other_workchain : (r : Route) (w : ℤ) (a : List ℕ) → (r.workchain ≡ w → ⊥) → false ≡ same_route r w a
 other_workchain r w a n = sym (pick_no (equalℤ r.workchain w) (same_bytes r.account a) false (equal_differ r.workchain w n))
+
+-- the library's comparison of two accounts is ours
+same_account : (a b : List ℕ) → pointwise eqb a b ≡ same_bytes a b
+unfolding same_bytes
+same_account [] [] = refl
+same_account [] (y ∷ b) = refl
+same_account (x ∷ a) [] = refl
+same_account (x ∷ a) (y ∷ b) = rw (same_account a b) (go (eqb x y) (same_bytes a b))
+  where
+    go : (t k : Bool) → (t && k) ≡ pick t k false
+    go true k = refl
+    go false k = refl
+
+pub this_route : (r : Route) (w : ℤ) (a : List ℕ) → r.workchain ≡ w → pointwise eqb r.account a ≡ same_route r w a
+this_route r w a e = same_account r.account a ∙ sym (pick_yes (equalℤ r.workchain w) (same_bytes r.account a) false (subst (λ (z : ℤ). equalℤ r.workchain z ≡ true) e (equal_self r.workchain)))
 
 pub this_workchain : (r : Route) (w : ℤ) (a : List ℕ) → r.workchain ≡ w → length a ≡ length r.account → starts_with a r.account ≡ same_route r w a
 this_workchain r w a e same =

@@ -4,7 +4,6 @@ use Rattle.rows.specs.Rows.{pick, part, same_bytes}
 use Rattle.shard_ident.specs.Shard.{signed_byte, equalℤ}
 use Rattle.router.specs.Router.{Answer, max_routes, unless_refused, route_rows, route_partition_of}
 use Rattle.by_reference.specs.declared.Route.{Route}
-use Rattle.by_reference.specs.declared.Walk.{Walk}
 
 abbrev pub same_route : Route → ℤ → List ℕ → Bool
 same_route r workchain account = pick (equalℤ r.workchain workchain) (same_bytes r.account account) false
@@ -36,7 +35,16 @@ records_number l = pick (takes_all [] l) 0 3
 unfoldable pub get_partition_in : List Route → ℤ → List ℕ → Answer
 get_partition_in l workchain account = unless_refused (records_number l) (first_partition_in l workchain account)
 
--- ---- the walk
+-- ---- the rule again, as one walk
+-- What the walk over route records has come to: those so far, whether question 3 takes them, and the partition of the
+-- first for the workchain and the account.
+pub record Walk : Type 0 where
+  pub routes : List Route
+  pub len : ℕ
+  pub sound : Bool
+  pub found : Bool
+  pub partition : ℕ
+
 abbrev pub empty_route : Route
 empty_route = record { workchain = pos 0; account = replicate 32 0; partition = 0 }
 

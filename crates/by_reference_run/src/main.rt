@@ -1,173 +1,151 @@
 // Runs the calls of `by_reference` on a small cache and on four routes (README.md).
 #![tactic(auto)]
 
-use anchors_cache::{
-    AnchorAnswer, AnchorsCacheTransaction, FoundAnchor, FoundInfo, InfoAnswer, MempoolAnchor,
-};
+ghost use Rattle.cache_rules.specs.Rules.{area_bytes};
+ghost use Rattle.std.specs.Prelude.{◌≤◌};
+
+use anchors_cache::{AnchorsCacheTransaction, Authored, MempoolAnchor, TABLES_BYTES};
 use by_reference::Route;
+use cache_rules::AREA_BYTES;
 use ext_types::ChainTime;
-use router::Routed;
+use refusals::Refusal;
+use std::io;
 
-fn put_number(n: u64) {
-    let mut digits = [0u8; 20];
-    let k = io::decimal(n, &mut digits);
-    io::write_all(1, b" ");
-    io::write_all(1, &digits[..k]);
+fn print_number(rt: &impl Print, name: &str, number: u8) -> io::Result<()> {
+    println!(rt; "{name} {number}")
 }
 
-fn put_line(name: &[u8], number: u8) {
-    io::write_all(1, name);
-    put_number(number as u64);
-    io::write_all(1, b"\n");
+fn print_done(rt: &impl Print, name: &str, done: Result<(), Refusal>) -> io::Result<()> {
+    print_number(rt, name, refusals::number(done))
 }
 
-// The id behind a number, or `none`.
-fn put_front(a: AnchorAnswer) {
-    io::write_all(1, b"pop");
-    put_number(a.number as u64);
-    let front = a.anchor;
-    let FoundAnchor::Anchor(x) = front else {
-        io::write_all(1, b" none\n");
-        return;
-    };
-    put_number(x.id as u64);
-    io::write_all(1, b"\n");
+// The number, and the id or `none`.
+fn print_id<T: Copy, F: FnOnce(T) -> u32>(
+    rt: &impl Print,
+    name: &str,
+    answer: Result<Option<Authored<T>>, Refusal>,
+    id_of: F,
+) -> io::Result<()>
+    requires { F.IsAlwaysCallable id_of }
+{
+    match answer {
+        Ok(Some(found)) => println!(rt; "{name} 0 {}", id_of(found.value)),
+        Ok(None) => println!(rt; "{name} 0 none"),
+        Err(refusal) => println!(rt; "{name} {} none", u8::from(refusal)),
+    }
 }
 
-fn put_last(a: InfoAnswer) {
-    io::write_all(1, b"trim");
-    put_number(a.number as u64);
-    let last = a.info;
-    let FoundInfo::Info(e) = last else {
-        io::write_all(1, b" none\n");
-        return;
-    };
-    put_number(e.id as u64);
-    io::write_all(1, b"\n");
-}
-
-fn put_cache(t: AnchorsCacheTransaction) {
-    let c = t.cache;
-    io::write_all(1, b"cache");
-    put_number(c.len as u64);
-    put_number(c.history_len as u64);
-    put_number(c.pending as u64);
-    put_number(t.active as u64);
-    io::write_all(1, b"\n");
-}
-
-// An anchor with one message for each of ours.
-fn add(
-    tables: &mut [u8; 14912],
-    area: &mut [u8; 33792],
+// The cache that the calls run on.
+#[derive(Drop)]
+struct Run {
+    tables: [u8; TABLES_BYTES],
+    area: [u8; AREA_BYTES],
     t: AnchorsCacheTransaction,
-    id: u32,
-    ours: u32,
-    messages: &[u8],
-) -> AnchorsCacheTransaction {
-    let author = [0u8; 32];
-    let anchor = MempoolAnchor {
-        id: id,
-        chain_time: ChainTime(1000 * id as u64),
-        author: author,
-    };
-    let done = anchors_cache::add(tables, area, t, anchor, ours, messages);
-    put_line(b"add", done.number);
-    done.state
 }
 
-fn three_anchors(tables: &mut [u8; 14912], area: &mut [u8; 33792]) -> AnchorsCacheTransaction {
-    let message = [0u8; 33];
-    let empty = anchors_cache::new();
-    let one = add(tables, area, empty, 1, 1, &message);
-    let two = add(tables, area, one, 2, 1, &message);
-    add(tables, area, two, 3, 0, b"")
+impl Run {
+    fn new() -> Self {
+        Run {
+            tables: [0; TABLES_BYTES],
+            area: [0; AREA_BYTES],
+            t: anchors_cache::new(),
+        }
+    }
+
+    fn print_cache(&self, rt: &impl Print) -> io::Result<()> {
+        let cache = self.t.cache;
+        let pending = u8::from(cache.pending);
+        let active = u8::from(self.t.active);
+        println!(rt;
+            "cache {} {} {pending} {active}",
+            cache.len, cache.history_len
+        )
+    }
+
+    fn add(&mut self, rt: &impl Print, id: u32, ours: u32, messages: &[u8]) -> io::Result<()> {
+        let anchor = MempoolAnchor {
+            id,
+            chain_time: ChainTime(1000 * u64::from(id)),
+            author: [0; 32],
+        };
+        let (tables, area) = (&mut self.tables, &mut self.area);
+        let left = anchors_cache::add(tables, area, self.t, anchor, ours, messages);
+        self.t = left.unwrap_or(self.t);
+        print_done(rt, "add", left.map(|_| ()))
+    }
+
+    // All six calls on the first bytes of the area, their answers and what they leave.
+    fn in_turn(&mut self, rt: &impl Print, bytes: usize, ct: u64) -> io::Result<()>
+        requires { bytes ≤ area_bytes }
+    {
+        let area = &self.area[..bytes];
+        let answers = by_reference::in_turn(self.t, &self.tables, area, ChainTime(ct));
+        print_done(rt, "open", answers.opened)?;
+        print_id(rt, "pop", answers.popped, |front| front.id)?;
+        print_done(rt, "commit", answers.committed)?;
+        print_done(rt, "rollback", answers.rolled_back)?;
+        print_id(rt, "trim", answers.trimmed, |last| last.id)?;
+        print_done(rt, "close", answers.closed)?;
+        self.t = answers.state;
+        self.print_cache(rt)
+    }
 }
 
-// All six calls, their answers and what they leave.
-fn in_turn(
-    tables: &[u8],
-    area: &[u8],
-    t: AnchorsCacheTransaction,
-    ct: u64,
-) -> AnchorsCacheTransaction {
-    let r = by_reference::in_turn(t, tables, area, ChainTime(ct));
-    let front = r.popped;
-    let last = r.trimmed;
-    let s = r.state;
-    put_line(b"open", r.opened);
-    put_front(front);
-    put_line(b"commit", r.committed);
-    put_line(b"rollback", r.rolled_back);
-    put_last(last);
-    put_line(b"close", r.closed);
-    put_cache(s);
-    s
-}
-
-fn answered(
-    tables: &[u8; 14912],
-    area: &[u8; 33792],
-    t: AnchorsCacheTransaction,
-    ct: u64,
-) -> AnchorsCacheTransaction {
-    in_turn(tables, area, t, ct)
-}
-
-// An area that is one byte too short.
-fn refused(tables: &[u8; 14912], t: AnchorsCacheTransaction) {
-    let area = [0u8; 33791];
-    in_turn(tables, &area, t, 500);
-}
-
-fn cached() {
-    let mut tables = [0u8; 14912];
-    let mut area = [0u8; 33792];
-    let t = three_anchors(&mut tables, &mut area);
-    put_cache(t);
-    let a = answered(&tables, &area, t, 2500);
-    refused(&tables, a);
-    let b = answered(&tables, &area, a, 1500);
-    let c = answered(&tables, &area, b, 500);
-    answered(&tables, &area, c, 500);
+// The third anchor has no message of ours. The second round's area is one byte too short.
+fn cached(rt: &impl Print) -> io::Result<()> {
+    let mut run = Run::new();
+    let message = [0; 33];
+    run.add(rt, 1, 1, &message)?;
+    run.add(rt, 2, 1, &message)?;
+    run.add(rt, 3, 0, b"")?;
+    run.print_cache(rt)?;
+    run.in_turn(rt, AREA_BYTES, 2500)?;
+    run.in_turn(rt, AREA_BYTES - 1, 500)?;
+    for ct in [1500, 500, 500] {
+        run.in_turn(rt, AREA_BYTES, ct)?;
+    }
+    Ok(())
 }
 
 fn route(workchain: i8, byte: u8, partition: u8) -> Route {
-    let account = [byte; 32];
     Route {
-        workchain: workchain,
-        account: account,
-        partition: partition,
+        workchain,
+        account: [byte; 32],
+        partition,
     }
 }
 
 // The partition, or the number of the question that refuses the routes.
-fn put_routed(routed: Routed) {
-    let Routed::Partition(p) = routed else {
-        put_line(b"refused", 3);
-        return;
-    };
-    put_line(b"partition", p);
+fn print_partition(rt: &impl Print, routes: [Route; 4], workchain: i8, byte: u8) -> io::Result<()> {
+    match by_reference::partition_of4(routes, workchain, [byte; 32]) {
+        Ok(partition) => print_number(rt, "partition", partition),
+        Err(refusal) => print_number(rt, "refused", u8::from(refusal)),
+    }
 }
 
-fn routed() {
+fn routed(rt: &impl Print) -> io::Result<()> {
     let mut routes = [
         route(-1, 7, 3),
         route(0, 9, 5),
         route(1, 9, 6),
         route(0, 7, 2),
     ];
-    put_routed(by_reference::partition_of4(routes, -1, [7u8; 32]));
-    put_routed(by_reference::partition_of4(routes, 0, [9u8; 32]));
-    put_routed(by_reference::partition_of4(routes, 0, [7u8; 32]));
-    put_routed(by_reference::partition_of4(routes, -1, [9u8; 32]));
+    print_partition(rt, routes, -1, 7)?;
+    print_partition(rt, routes, 0, 9)?;
+    print_partition(rt, routes, 0, 7)?;
+    print_partition(rt, routes, -1, 9)?;
     routes[2] = route(1, 9, 8);
-    put_routed(by_reference::partition_of4(routes, 0, [9u8; 32]));
+    print_partition(rt, routes, 0, 9)?;
     routes[2] = route(0, 9, 6);
-    put_routed(by_reference::partition_of4(routes, -1, [7u8; 32]));
+    print_partition(rt, routes, -1, 7)
 }
 
-fn main() {
-    cached();
-    routed();
+fn print_all(rt: &impl Print) -> io::Result<()> {
+    cached(rt)?;
+    routed(rt)
+}
+
+// Where a write fails the lines end, in silence.
+fn main(rt: HostRuntime) {
+    let _ = print_all(&rt);
 }

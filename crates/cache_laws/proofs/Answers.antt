@@ -1,4 +1,5 @@
 -- What the cache's calls show where they are refused, and the rows of the tables by their numbers.
+use Rattle.std.specs.Prelude.{None}
 use Prim.Native.Nat.{ℕ, zero, suc, ◌-◌, ◌≤◌}
 use mathlib.Core.Path.{◌≡◌, refl}
 use mathlib.Core.Bool.{Bool, true, false}
@@ -10,9 +11,6 @@ use Rattle.rows.specs.Rows.{pick}
 use Rattle.cache_rules.specs.Rules.{Info, Row, author_bytes, max_anchors, max_history}
 use Rattle.anchors_cache.specs.declared.AnchorsCache.{AnchorsCache}
 use Rattle.anchors_cache.specs.declared.AnchorsCacheTransaction.{AnchorsCacheTransaction}
-use Rattle.anchors_cache.specs.declared.FoundAnchor.TheVariants as anchor
-use Rattle.anchors_cache.specs.declared.FoundInfo.TheVariants as info
-use Rattle.anchors_cache.specs.declared.FoundId.TheVariants as id
 use Rattle.anchors_cache.specs.Tables.{tables_bytes, anchor_at, info_at}
 use Rattle.anchors_cache.specs.Windows.{no_cache, any_places}
 use Rattle.anchors_cache.specs.Calls.{places_in, row_at, info_row_at, with_cache, info_answer, id_answer, get_answer, flag_answer, pop_answer, trim_answer, row_for, answer, refusal_at, closed_transaction, close_call}
@@ -20,13 +18,13 @@ use Rattle.anchors_cache.specs.Calls.{places_in, row_at, info_row_at, with_cache
 -- ---- refused: none, false, and an author of zeros
 module _ (n : ℕ) where
   pub a_refused_question_shows_nothing : (i base : ℕ) (l : List Row) (o : Option Info) (b : Bool)
-      → (get_answer (suc n) i base l ≡ record { number = suc n; anchor = anchor.Nothing; author = replicate author_bytes 0 }) × (info_answer (suc n) o ≡ record { number = suc n; info = info.Nothing; author = replicate author_bytes 0 })
-      × (id_answer (suc n) o ≡ record { number = suc n; last = id.Nothing }) × (flag_answer (suc n) b ≡ record { number = suc n; flag = false })
+      → (get_answer (suc n) i base l ≡ record { number = suc n; anchor = None; author = replicate author_bytes 0 }) × (info_answer (suc n) o ≡ record { number = suc n; info = None; author = replicate author_bytes 0 })
+      × (id_answer (suc n) o ≡ record { number = suc n; last = None }) × (flag_answer (suc n) b ≡ record { number = suc n; flag = false })
   unfolding get_answer info_answer id_answer flag_answer
   a_refused_question_shows_nothing i base l o b = (refl, refl, refl, refl)
 
   pub a_refused_pop_or_trim_shows_nothing_and_leaves_the_state : (tables : List ℕ) (t : AnchorsCacheTransaction) (c : AnchorsCache)
-      → (pop_answer (suc n) tables t ≡ record { number = suc n; front = anchor.Nothing; author = replicate author_bytes 0; state = t }) × (trim_answer (suc n) tables t c ≡ record { number = suc n; last = info.Nothing; author = replicate author_bytes 0; state = t })
+      → (pop_answer (suc n) tables t ≡ record { number = suc n; front = None; author = replicate author_bytes 0; state = t }) × (trim_answer (suc n) tables t c ≡ record { number = suc n; last = None; author = replicate author_bytes 0; state = t })
   unfolding pop_answer trim_answer
   a_refused_pop_or_trim_shows_nothing_and_leaves_the_state tables t c = (refl, refl)
 

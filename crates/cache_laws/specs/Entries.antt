@@ -3,9 +3,9 @@
 use Rattle.std.specs.Prelude.{ℕ, ◌^◌, List, length}
 use Rattle.anchors_cache.specs.declared.AnchorsCacheTransaction.{AnchorsCacheTransaction}
 use Rattle.anchors_cache.specs.declared.MempoolAnchor.{MempoolAnchor}
-use Rattle.anchors_cache.specs.declared.Done.{Done}
-use Rattle.anchors_cache.specs.declared.Popped.{Popped}
-use Rattle.anchors_cache.specs.declared.Trimmed.{Trimmed}
+use Rattle.anchors_cache.specs.Answers.{Done}
+use Rattle.anchors_cache.specs.Answers.{Popped}
+use Rattle.anchors_cache.specs.Answers.{Trimmed}
 use Rattle.ext_types.specs.declared.ExternalKey.{ExternalKey}
 use Rattle.anchors_cache.specs.Calls.{row_for, add_number, add_call, add_info_call, pop_call, pops_call, trim_call, clear_call, open_call, commit_call, rollback_call, close_call, last_info_call, info_at_ct_call, last_id_call, get_call, pending_call, pending_in_range_call}
 use Rattle.cache_laws.specs.Book.{Call, Effect, changes, commits, rolls_back, nothing, pops, trims, asked_of_caches, book_refusal, book_add, book_add_info}

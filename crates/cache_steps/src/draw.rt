@@ -1,113 +1,175 @@
-// The numbers and anchors that the list draws. No sum of ids or chain times wraps in the list, so the wrapping sum is
-// the sum.
-ghost use Rattle.std.specs.Prelude.{◌<◌};
+// What the list draws. No sum of ids or chain times wraps in the list, so the wrapping sum is the sum.
+ghost use Rattle.std.specs.Prelude.{◌<◌, ◌≤◌};
 
-#[derive(Clone, Copy)]
-pub struct Drawn {
+#[derive(Clone, Copy, Debug, PartialEq, Eq)]
+pub enum Kind {
+    Small,
+    Large,
+    NoneOurs,
+}
+
+#[derive(Clone, Copy, Debug, PartialEq, Eq)]
+pub enum Step {
+    Add,
+    Pop,
+    Trim,
+    Open,
+    Commit,
+    Rollback,
+    Close,
+}
+
+#[derive(Clone, Copy, Debug)]
+pub struct Anchor {
     pub id: u32,
     pub ct: u64,
     pub ours: u32,
     pub count: u32,
 }
 
-fn wide(x: u32) -> u64
-    ensures { result < 4294967296 }
-{
-    x as u64
+// The seed, and the next anchor's id and chain time.
+#[derive(Clone, Copy, Debug)]
+pub struct Draw {
+    seed: u32,
+    next_id: u32,
+    next_ct: u64,
 }
 
-// rnd(n)
-pub fn rnd(seed: &mut u32, n: u32) -> u32
-    requires { 0 < n }
-    ensures { result < n }
-{
-    let s = (wide(*seed) * 1103515245 + 12345) % 2147483648;
-    *seed = s as u32;
-    (s / 65536) as u32 % n
+impl Draw {
+    pub fn new() -> Self {
+        Draw {
+            seed: 1,
+            next_id: 1,
+            next_ct: 1000,
+        }
+    }
+
+    fn rnd(&mut self, n: u32) -> u32
+        requires { 0 < n }
+        ensures { result < n }
+    {
+        let s = (u64::from(self.seed) * 1_103_515_245 + 12_345) % 2_147_483_648;
+        self.seed = s as u32;
+        (s / 65_536) as u32 % n
+    }
+
+    fn rnd_time(&mut self, n: u32) -> u64
+        requires { 0 < n }
+    {
+        50 * u64::from(self.rnd(n))
+    }
+
+    pub fn step(&mut self) -> Step {
+        match self.rnd(16) {
+            0..=5 => Step::Add,
+            6..=8 => Step::Pop,
+            9 => Step::Trim,
+            10 => Step::Open,
+            11 | 12 => Step::Commit,
+            13 => Step::Rollback,
+            _ => Step::Close,
+        }
+    }
+
+    // How many anchors a step adds; with a transaction open nothing is drawn.
+    pub fn adds(&mut self, kind: Kind, active: bool) -> u32 {
+        match kind {
+            _ if active => 1,
+            Kind::NoneOurs => 1 + self.rnd(40),
+            Kind::Small | Kind::Large => 1 + self.rnd(20),
+        }
+    }
+
+    pub fn pops(&mut self) -> u32 {
+        1 + self.rnd(8)
+    }
+
+    // How far before the last chain time a trim goes.
+    pub fn back(&mut self) -> u64 {
+        self.rnd_time(40)
+    }
+
+    fn count(&mut self, kind: Kind) -> u32
+        ensures { result < 120 }
+    {
+        match kind {
+            Kind::Large => self.rnd(120),
+            Kind::Small | Kind::NoneOurs => self.rnd(12),
+        }
+    }
+
+    // Ours of count messages; without messages nothing is drawn.
+    fn ours(&mut self, kind: Kind, count: u32) -> u32
+        requires { count < 120 }
+    {
+        if count == 0 {
+            return 0;
+        }
+        let ours = self.rnd(count + 1);
+        if kind == Kind::NoneOurs { 0 } else { ours }
+    }
+
+    // Now and then ours, the id or the chain time is out of the ordinary.
+    fn varied(&mut self, anchor: Anchor) -> Anchor {
+        let Anchor { id, ct, count, .. } = anchor;
+        match self.rnd(32) {
+            0 => Anchor {
+                ours: count.wrapping_add(1),
+                ..anchor
+            },
+            1 => Anchor {
+                id: id.saturating_sub(1 + self.rnd(4)),
+                ..anchor
+            },
+            2 => Anchor {
+                ct: ct.wrapping_add(self.rnd_time(60)),
+                ..anchor
+            },
+            _ => anchor,
+        }
+    }
+
+    // The next id and chain time are drawn before the rest of an anchor.
+    pub fn anchor(&mut self, kind: Kind) -> Anchor {
+        let (id, ct) = (self.next_id, self.next_ct);
+        self.next_id = id.wrapping_add(1 + self.rnd(3));
+        self.next_ct = ct.wrapping_add(self.rnd_time(10));
+        let count = self.count(kind);
+        let ours = self.ours(kind, count);
+        self.varied(Anchor {
+            id,
+            ct,
+            ours,
+            count,
+        })
+    }
 }
 
-// 50 * rnd(n)
-pub fn rnd_time(seed: &mut u32, n: u32) -> u64
-    requires { 0 < n }
-{
-    50 * wide(rnd(seed, n))
+// Each byte is one more than the one before it, and 0 behind 255.
+fn count_up(bytes: &mut [u8], first: u8) {
+    for (place, i) in bytes.iter_mut().zip(0..=u8::MAX) {
+        *place = first.wrapping_add(i);
+    }
 }
 
-fn rnd_count(seed: &mut u32, kind: u32) -> u32
-    ensures { result < 120 }
-{
-    if kind == 1 {
-        return rnd(seed, 120);
-    }
-    rnd(seed, 12)
-}
-
-// Ours of count messages; without messages nothing is drawn.
-fn rnd_ours(seed: &mut u32, kind: u32, count: u32) -> u32
-    requires { count < 120 }
-{
-    if count == 0 {
-        return 0;
-    }
-    let ours = rnd(seed, count + 1);
-    if kind == 2 {
-        return 0;
-    }
-    ours
-}
-
-// id - w, or 0 if w is greater
-fn minus(id: u32, w: u32) -> u32 {
-    if id < w {
-        return 0;
-    }
-    id - w
-}
-
-// Now and then ours, the id or the chain time is out of the ordinary.
-fn varied(seed: &mut u32, d: Drawn) -> Drawn {
-    let v = rnd(seed, 32);
-    let mut a = d;
-    if v == 0 {
-        a.ours = std::num::wrapping_add_u32(d.count, 1);
-    }
-    if v == 1 {
-        a.id = minus(d.id, 1 + rnd(seed, 4));
-    }
-    if v == 2 {
-        a.ct = std::num::wrapping_add_u64(d.ct, rnd_time(seed, 60));
-    }
-    a
-}
-
-pub fn anchor(seed: &mut u32, kind: u32, id: u32, ct: u64) -> Drawn {
-    let count = rnd_count(seed, kind);
-    let ours = rnd_ours(seed, kind, count);
-    varied(
-        seed,
-        Drawn {
-            id: id,
-            ct: ct,
-            ours: ours,
-            count: count,
-        },
-    )
+fn low_byte(id: u32) -> u8 {
+    (id % 256) as u8
 }
 
 // Byte i is (id + i) % 256.
 pub fn author(id: u32) -> [u8; 32] {
-    let mut a = [0u8; 32];
-    for i in 0..32u64 {
-        a[i as usize] = ((wide(id) + i) % 256) as u8;
-    }
-    a
+    let mut author = [0; 32];
+    count_up(&mut author, low_byte(id));
+    author
 }
 
 // Byte j of message m is (id + 7 * m + j) % 256. 120 messages are more than any anchor of the list has.
 pub fn messages(id: u32) -> [u8; 3960] {
-    let mut all = [0u8; 3960];
-    for i in 0..3960u64 {
-        all[i as usize] = ((wide(id) + 7 * (i / 33) + i % 33) % 256) as u8;
+    let mut all = [0; 3960];
+    let mut first = low_byte(id);
+    for message in all.chunks_exact_mut(33) {
+        count_up(message, first);
+        first = first.wrapping_add(7);
     }
     all
 }

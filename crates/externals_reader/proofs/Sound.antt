@@ -1,39 +1,37 @@
 -- Laws of questions 4 and 5: the ranges by index, and what a number 0 says.
-use Prim.Native.Nat.{ℕ, suc, zero, ◌+◌, ◌-◌, ◌≤◌, ◌<◌}
+use Prim.Native.Nat.{ℕ, suc, zero, ◌+◌, ◌≤◌, ◌<◌}
 use mathlib.Core.Path.{◌≡◌, refl, sym, ap, ◌∙◌}
 use mathlib.Core.Bool.{Bool, true, false, ◌&&◌}
 use mathlib.Core.List.{List, [], ◌∷◌}
 use native.Mathlib.Omega.{arith}
 use native.Mathlib.Numerals.{add-one}
 use lib.Dec.{leb}
-use lib.ListN.{length, get_or, take}
-use borrow.Author.Tests.{eqb-true, leb-true, lt-leb, le-leb}
-use Rattle.rows.specs.Rows.{pick, part}
-use Rattle.rows.proofs.Laws.{part_cons, and_true, pick_yes, pick_no, no_later}
+use lib.ListN.{length, get_or, take, drop, drop_of_length-le}
+use lib.Seq.{drop-cons}
+use borrow.Author.Tests.{eqb-true, leb-true, le-leb}
+use Rattle.rows.specs.Rows.{pick}
+use Rattle.rows.proofs.Laws.{and_true, pick_yes}
 use Rattle.reader_rules.specs.declared.ExternalsReaderState.{ExternalsReaderState}
-use Rattle.reader_rules.specs.declared.ExternalsReader.{ExternalsReader}
-use Rattle.reader_rules.specs.State.{settled_number, ranges_number, no_range, held_ranges, range_sound, sound_ranges_from, state_number, settings_number, max_ranges, max_open_ranges}
-use Rattle.externals_reader.specs.Locals.{pieces_number}
-use Rattle.messages_buffer.specs.Fullness.{first_no, limits_number, partitions_number}
+use Rattle.reader_rules.specs.State.{ranges_number, no_range, held_ranges, range_sound, sound_ranges_from, state_number, settings_number, max_ranges, max_open_ranges}
+use Rattle.messages_buffer.specs.Fullness.{limits_number, partitions_number}
 use Rattle.range_rules.specs.declared.ExternalsRangeReaderState.{ExternalsRangeReaderState}
-use Rattle.messages_buffer.proofs.Laws.{first_no_lem, first_yes, first_alone}
+use Rattle.messages_buffer.proofs.Laws.{first_yes, first_alone}
 
 -- ---- the loop over the ranges
-module _ (xs : List ExternalsRangeReaderState) (low at left : ℕ) (h : 0 < left) (g : at + left ≤ length xs) where
-  sound_step : sound_ranges_from low (part at left xs) ≡ range_sound low (get_or xs at no_range) && sound_ranges_from (suc (get_or xs at no_range).seqno) (part (at + 1) (left - 1) xs)
+module _ (xs : List ExternalsRangeReaderState) (low i : ℕ) (h : i < length xs) where
+  sound_step : sound_ranges_from low (drop i xs) ≡ range_sound low (get_or xs i no_range) && sound_ranges_from (suc (get_or xs i no_range).seqno) (drop (i + 1) xs)
   unfolding sound_ranges_from
-  sound_step = rw (part_cons no_range xs at left h g)
+  sound_step = rw (add-one i, drop-cons xs i no_range h)
 
-  pub sound_fail : range_sound low (get_or xs at no_range) ≡ false → sound_ranges_from low (part at left xs) ≡ false
-  sound_fail e = sound_step ∙ ap (λ (b : Bool). b && sound_ranges_from (suc (get_or xs at no_range).seqno) (part (at + 1) (left - 1) xs)) e
+  pub sound_fail : range_sound low (get_or xs i no_range) ≡ false → sound_ranges_from low (drop i xs) ≡ false
+  sound_fail e = sound_step ∙ rw e
 
-  pub sound_next : range_sound low (get_or xs at no_range) ≡ true → sound_ranges_from ((get_or xs at no_range).seqno + 1) (part (at + 1) (left - 1) xs) ≡ sound_ranges_from low (part at left xs)
-  sound_next e = rw (add-one (get_or xs at no_range).seqno) (sym (sound_step ∙ ap (λ (b : Bool). b && sound_ranges_from (suc (get_or xs at no_range).seqno) (part (at + 1) (left - 1) xs)) e))
+  pub sound_next : range_sound low (get_or xs i no_range) ≡ true → sound_ranges_from low (drop i xs) ≡ sound_ranges_from ((get_or xs i no_range).seqno + 1) (drop (i + 1) xs)
+  sound_next e = rw (add-one (get_or xs i no_range).seqno) (sound_step ∙ rw e)
 
-pub sound_end : (xs : List ExternalsRangeReaderState) (low at left : ℕ) → left ≤ 0 → sound_ranges_from low (part at left xs) ≡ true
+pub sound_end : (xs : List ExternalsRangeReaderState) (low i : ℕ) → length xs ≤ i → sound_ranges_from low (drop i xs) ≡ true
 unfolding sound_ranges_from
-sound_end xs low at zero h = refl
-sound_end xs low at (suc n) h = absurd (omega arith)
+sound_end xs low i h = rw (drop_of_length-le xs h)
 
 -- each of them has counts within the cap
 pub sound_counts : (low : ℕ) (l : List ExternalsRangeReaderState) → sound_ranges_from low l ≡ true → (i : ℕ) → i < length l → partitions_number (get_or l i no_range).by_partitions ≡ 0
@@ -43,15 +41,8 @@ sound_counts low (r ∷ l) e zero h = eqb-true _ _ (and_true (leb low r.seqno) _
 sound_counts low (r ∷ l) e (suc i) h = sound_counts (suc r.seqno) l (and_true (range_sound low r) _ e).1 i (omega arith)
 
 -- ---- question 5
-module _ (ranges : List ExternalsRangeReaderState) (len : ℕ) where
-  pub too_many_ranges : max_ranges < len → 5 ≡ ranges_number ranges len
-  too_many_ranges h = rw (lt-leb len max_ranges h)
-
-  pub unsound_ranges : sound_ranges_from 0 (take len ranges) ≡ false → 5 ≡ ranges_number ranges len
-  unsound_ranges e = sym (pick_no _ _ _ (sym (no_later (leb len max_ranges) _ e)))
-
-  pub sound_table : len ≤ max_ranges → sound_ranges_from 0 (take len ranges) ≡ true → 0 ≡ ranges_number ranges len
-  sound_table h e = sym (pick_yes _ _ _ (ap (λ (b : Bool). b && sound_ranges_from 0 (take len ranges)) (le-leb len max_ranges h) ∙ e))
+pub sound_table : (ranges : List ExternalsRangeReaderState) (len : ℕ) → len ≤ max_ranges → sound_ranges_from 0 (take len ranges) ≡ true → 0 ≡ ranges_number ranges len
+sound_table ranges len h e = sym (pick_yes _ _ _ (ap (λ (b : Bool). b && sound_ranges_from 0 (take len ranges)) (le-leb len max_ranges h) ∙ e))
 
 module _ (state : ExternalsReaderState) where
   pub by_ranges : ranges_number state.ranges state.len ≡ state_number state
@@ -69,23 +60,11 @@ module _ (state : ExternalsReaderState) where
       yes_0 true q = refl
       yes_0 false q = absurd (omega arith)
 
-pub by_pieces : (r : ExternalsReader) (n : ℕ) → n ≡ pieces_number r.buffer_limits_by_partitions r.msgs_exec_params.open_ranges_limit r.reader_state.ranges r.reader_state.len → n ≡ settled_number r
-unfolding settled_number
-by_pieces r n e = e ∙ ap (λ (m : ℕ). first_no (settings_number r.buffer_limits_by_partitions r.msgs_exec_params.open_ranges_limit ∷ m ∷ [])) (by_ranges r.reader_state)
-
 -- ---- question 4
-module _ (limits : List ℕ) (most : ℕ) where
-  pub limits_refused : (n : ℕ) → n ≡ limits_number limits → (n ≡ 0 → ⊥) → n ≡ settings_number limits most
+module _ (limits : List ℕ) (most : ℕ) (limits_fit : limits_number limits ≡ 0) where
+  last_setting : settings_number limits most ≡ pick (leb most max_open_ranges) 0 4
   unfolding settings_number
-  limits_refused n e h = sym (rw (sym e) (first_no_lem n _ h))
+  last_setting = first_yes _ _ limits_fit ∙ first_alone (pick (leb most max_open_ranges) 0 4)
 
-  module _ (limits_fit : limits_number limits ≡ 0) where
-    last_setting : settings_number limits most ≡ pick (leb most max_open_ranges) 0 4
-    unfolding settings_number
-    last_setting = first_yes _ _ limits_fit ∙ first_alone (pick (leb most max_open_ranges) 0 4)
-
-    pub open_limit_refused : max_ranges < most → 4 ≡ settings_number limits most
-    open_limit_refused h = sym (last_setting ∙ pick_no _ _ _ (lt-leb most max_open_ranges h))
-
-    pub settings_fit : most ≤ max_ranges → 0 ≡ settings_number limits most
-    settings_fit h = sym (last_setting ∙ pick_yes _ _ _ (le-leb most max_open_ranges h))
+  pub settings_fit : most ≤ max_ranges → 0 ≡ settings_number limits most
+  settings_fit h = sym (last_setting ∙ pick_yes _ _ _ (le-leb most max_open_ranges h))

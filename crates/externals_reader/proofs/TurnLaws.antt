@@ -1,42 +1,46 @@
 -- The turns of a read of all: what each adds, where it writes, and its bounds.
+use Rattle.std.specs.Prelude.{Some}
 use Prim.Native.Nat.{ℕ, zero, suc, ◌+◌, ◌-◌, ◌*◌, ◌<◌, ◌≤◌}
 use mathlib.Core.Path.{◌≡◌, refl, sym, ap, ◌∙◌}
-use mathlib.Core.Bool.{Bool, true, false, not, ◌&&◌, ◌||◌}
+use mathlib.Core.Bool.{Bool, true, false, not, ◌&&◌}
 use mathlib.Core.List.{List, [], ◌∷◌, ◌++◌, append-nil}
 use native.Mathlib.Omega.{arith}
 use lib.Dec.{eqb}
 use lib.ListN.{length, get_or, set, take, drop, replicate, length-replicate, length-append, length-take, length-drop, drop_of_length-le, take-append-drop}
 use lib.Seq.{sets, set-set, get_or-set_same, take_all, length-take-le, length-sets}
 use borrow.Rule.Slice.PartMut.{put_mid, mid_of, put_same}
-use borrow.Author.Tests.{eq-eqb, ne_eqb, eqb-false}
+use borrow.Author.Tests.{eq-eqb, ne_eqb}
 use Rattle.reader_rules.proofs.Sums.{added_at_most, more_at_most}
 use Rattle.rows.specs.Rows.{pick}
 use Rattle.rows.proofs.Laws.{pick_yes, pick_no, sets_append}
 use Rattle.messages_buffer.specs.Fullness.{first_no}
 use Rattle.anchors_cache.specs.declared.AnchorsCacheTransaction.{AnchorsCacheTransaction}
-use Rattle.anchors_cache.specs.declared.Done.{Done}
+use Rattle.anchors_cache.specs.Answers.{Done}
 use Rattle.anchors_cache.specs.Calls.{pops_call}
 use Rattle.range_reader.proofs.LocalLaws.{set_same}
 use Rattle.range_rules.specs.declared.ExternalsRangeReaderState.{ExternalsRangeReaderState}
 use Rattle.range_rules.specs.declared.ReadCounts.{ReadCounts}
-use Rattle.range_reader.specs.declared.ReadExternals.{ReadExternals}
-use Rattle.range_rules.specs.declared.RangeRead.{RangeRead}
+use Rattle.range_rules.specs.Walks.{RangeRead}
 use Rattle.range_rules.specs.declared.ReadNextExternalsMode.{ReadNextExternalsMode}
 use Rattle.range_rules.specs.Rules.{Outcome, silent, followed}
 use Rattle.range_rules.specs.Bounds.{AtMost}
-use Rattle.range_reader.specs.Ready.{Wrote}
-use Rattle.range_reader.specs.Calls.{ReadResult, asked_number, range_read, refused_answer, done_result, read_call, check_call}
+use Rattle.range_reader.specs.Ready.{Wrote, Tells}
+use Rattle.std.specs.Prelude.{Result, Ok, Err}
+use Rattle.refusals.specs.declared.Refusal.{Refusal}
+use Rattle.refusals.specs.Refusals.{number_of}
+use Rattle.refusals.proofs.Laws.{refused_is_not_done}
+use Rattle.range_reader.specs.Calls.{ReadAnswer, ReadResult, asked_number, range_read, refused_answer, done_result, read_call, check_call}
 use Rattle.range_reader.proofs.Bounds.{Bounded, every_answer_is_bounded, a_read_with_number_0_stores_its_entries}
 use Rattle.reader_rules.specs.declared.Fixed.{Fixed}
-use Rattle.reader_rules.specs.declared.LastFree.TheVariants.{Places}
-use Rattle.reader_rules.specs.declared.RangesRead.{RangesRead}
-use Rattle.reader_rules.specs.declared.SoFar.{SoFar}
-use Rattle.externals_reader.specs.declared.TurnDone.{TurnDone}
+use Rattle.reader_rules.specs.Turns.{SoFar, RangesRead}
+use Rattle.externals_reader.specs.declared.SoFar.{SoFar as CodeSoFar}
+use Rattle.externals_reader.specs.declared.RangesRead.{RangesRead as CodeRanges}
+use Rattle.externals_reader.specs.declared.TurnDone.{TurnDone as CodeTurn}
 use Rattle.reader_rules.specs.State.{no_range, max_ranges}
 use Rattle.reader_rules.specs.Rules.{next_range, is_skipped, mode_for, settled, counts_added, Told, numbered, not_all_read, added, read_of, after_turn, OneRange, read_turn, turn, is_over, turns, with_next_range, ranges_read, wants_next}
 use Rattle.externals_reader.specs.Calls.{told, window_read}
-use Rattle.externals_reader.specs.Locals.{turn_done}
-use Rattle.externals_reader.specs.Ready.{After, TurnRoom, Start, TurnReady, RangeWrote, TurnWrote}
+use Rattle.externals_reader.specs.Locals.{TurnDone, turn_done}
+use Rattle.externals_reader.specs.Ready.{so_far_told, ranges_told, done_told, ranges_tell, turn_tells, After, TurnRoom, Start, TurnReady, RangeWrote, TurnWrote}
 use Rattle.externals_reader.proofs.Laws.{next_below}
 use Rattle.cache_rules.specs.Rules.{max_anchors, max_messages}
 
@@ -106,15 +110,10 @@ sets_behind a b i (v ∷ vs) = let e : suc (length a + i) ≡ length a + suc i =
 
 -- ---- what a turn adds
 module _ (x : Fixed) (s : SoFar) (range : ExternalsRangeReaderState) (a : Told) where
-  pub done_refused : (a.number ≡ 0 → ⊥)
-      → ◌≡◌ {A = TurnDone} (record { so_far = record { number = a.number; pops = s.pops; used = s.used; all_read = s.all_read; stopped = s.stopped; free = s.free; last = s.last; counts = s.counts }; range = range }) (turn_done x s range a)
-  unfolding turn_done
-  done_refused h = sym (pick_no (eqb a.number 0) _ _ (ne_eqb a.number 0 h))
-
   module _ (all-read stopped : Bool) (counts : ReadCounts) (next : ExternalsRangeReaderState)
       (ae : all-read ≡ (s.all_read && a.range.fully_read)) (se : stopped ≡ (eqb a.free 0 && not a.range.fully_read)) (ce : counts ≡ counts_added s.counts a.counts) (re : next ≡ settled x a.range) where
     pub done_read : a.number ≡ 0
-        → ◌≡◌ {A = TurnDone} (record { so_far = record { number = 0; pops = s.pops + a.pops; used = s.used + a.used; all_read = all-read; stopped = stopped; free = Places a.free; last = a.last; counts = counts }; range = next }) (turn_done x s range a)
+        → ◌≡◌ {A = TurnDone} (record { so_far = record { number = 0; pops = s.pops + a.pops; used = s.used + a.used; all_read = all-read; stopped = stopped; free = Some a.free; last = a.last; counts = counts }; range = next }) (turn_done x s range a)
     unfolding turn_done
     done_read z = rw (ae, se, ce, re) (sym (pick_yes (eqb a.number 0) _ _ (eq-eqb a.number 0 z)))
 
@@ -139,7 +138,7 @@ module _ (ranges : List ExternalsRangeReaderState) (i : ℕ) (range : ExternalsR
         go false = rw stays
 
 -- ---- one range's read, writing or not
-module _ (tables area : List ℕ) (t : AnchorsCacheTransaction) (routes : List ℕ) (x : Fixed) (range : ExternalsRangeReaderState) (out : List ℕ) (write : Bool) (mode : ReadNextExternalsMode) (me : mode ≡ mode_for x range.seqno) (a : ReadExternals) (o : List ℕ) where
+module _ (tables area : List ℕ) (t : AnchorsCacheTransaction) (routes : List ℕ) (x : Fixed) (range : ExternalsRangeReaderState) (out : List ℕ) (write : Bool) (mode : ReadNextExternalsMode) (me : mode ≡ mode_for x range.seqno) (a : ReadAnswer) (o : List ℕ) where
   pub range_written : write ≡ true → record { answer = a; out = o } ≡ read_call tables area t x.shard routes x.limits x.processed x.params.externals_expire_timeout mode range out → RangeWrote write tables area t routes x range out o a
   range_written h e =
       let f = e ∙ ap (λ (m : ReadNextExternalsMode). read_call tables area t x.shard routes x.limits x.processed x.params.externals_expire_timeout m range out) me in
@@ -182,24 +181,24 @@ module _ (one : OneRange) (x : Fixed) (i : ℕ) (r : RangesRead) where
   unfolding turn
   reads h k = rw (h, k)
 
-module _ (one : OneRange) (x : Fixed) (s : SoFar) (range : ExternalsRangeReaderState) (write : Bool) (out : List ℕ) where
-  pub turn_passed : range.fully_read ≡ true → TurnWrote write one x s range out out (record { so_far = s; range = range })
+module _ (one : OneRange) (x : Fixed) (s : CodeSoFar) (range : ExternalsRangeReaderState) (write : Bool) (out : List ℕ) where
+  pub turn_passed : range.fully_read ≡ true → TurnWrote write one x (so_far_told s) range out out (Ok (record { so_far = s; range = range }))
   turn_passed h = record {
     at = λ ranges i len e.
-        rw (stays ranges i range e, passes one x i (read_of s ranges len) (ap (λ (v : ExternalsRangeReaderState). v.fully_read) e ∙ h))
-        (record { value = refl; out = pick_same write _ _ refl });
+        rw (passes one x i (read_of (so_far_told s) ranges len) (ap (λ (v : ExternalsRangeReaderState). v.fully_read) e ∙ h))
+        (record { value = ap (λ (l : List ExternalsRangeReaderState). read_of (so_far_told s) l len) (stays ranges i range e); out = pick_same write _ _ refl });
   }
 
   pub turn_skipped : range.fully_read ≡ false → is_skipped x range ≡ true
-      → TurnWrote write one x s range out out (record { so_far = not_all_read s; range = range })
+      → TurnWrote write one x (so_far_told s) range out out (Ok (record { so_far = record { pops = s.pops; used = s.used; all_read = false; stopped = s.stopped; free = s.free; last = s.last; counts = s.counts }; range = range }))
   turn_skipped h k = record {
     at = λ ranges i len e.
-        rw (stays ranges i range e, skips one x i (read_of s ranges len) (ap (λ (v : ExternalsRangeReaderState). v.fully_read) e ∙ h) (ap (is_skipped x) e ∙ k))
-        (record { value = refl; out = pick_same write _ _ refl });
+        rw (skips one x i (read_of (so_far_told s) ranges len) (ap (λ (v : ExternalsRangeReaderState). v.fully_read) e ∙ h) (ap (is_skipped x) e ∙ k))
+        (record { value = ap (λ (l : List ExternalsRangeReaderState). read_of (not_all_read (so_far_told s)) l len) (stays ranges i range e); out = pick_same write _ _ refl });
   }
 
 module _ (tables area : List ℕ) (t : AnchorsCacheTransaction) (routes : List ℕ) (x : Fixed) (s : SoFar) (range : ExternalsRangeReaderState) (write : Bool) (out : List ℕ) (ready : TurnRoom x s out)
-    (p : Done) (pe : p ≡ pops_call (length area) s.pops tables t) (a : ReadExternals) (o : List ℕ)
+    (p : Done) (pe : p ≡ pops_call (length area) s.pops tables t) (a : ReadAnswer) (o : List ℕ)
     (w : RangeWrote write tables area p.state routes x range (mid_of s.used (length out - s.used) out) o a) where
   abbrev rest : List ℕ
   rest = mid_of s.used (length out - s.used) out
@@ -229,29 +228,37 @@ module _ (tables area : List ℕ) (t : AnchorsCacheTransaction) (routes : List �
         used = omega (arith, ready.used, ready.small, c.used, rest_length);
       }
 
-  pub turn_lent : range.fully_read ≡ false → is_skipped x range ≡ false → (q : TurnDone) → q ≡ turn_done x s range (told a)
-      → TurnWrote write (window_read tables area t routes x) x s range out (put_mid s.used (length out - s.used) out o) q
-  turn_lent h k q qe = record { at = λ ranges i len e. rw (turn_at ranges i len e) (record { value = value ranges i len e; out = bytes write w.out }) }
-    where
-      turn_at : (ranges : List ExternalsRangeReaderState) (i len : ℕ) → get_or ranges i no_range ≡ range → turn (window_read tables area t routes x) x i (read_of s ranges len) ≡ record { value = after_turn x i (read_of s ranges len) one_now.value; entries = one_now.entries }
-      turn_at ranges i len e =
+  module _ (h : range.fully_read ≡ false) (k : is_skipped x range ≡ false) where
+    module _ (ranges : List ExternalsRangeReaderState) (i len : ℕ) (e : get_or ranges i no_range ≡ range) where
+      turn_at : turn (window_read tables area t routes x) x i (read_of s ranges len) ≡ record { value = after_turn x i (read_of s ranges len) one_now.value; entries = one_now.entries }
+      turn_at =
           reads (window_read tables area t routes x) x i (read_of s ranges len) (ap (λ (v : ExternalsRangeReaderState). v.fully_read) e ∙ h) (ap (is_skipped x) e ∙ k)
           ∙ ap (read_turn (window_read tables area t routes x) x i (read_of s ranges len)) e
 
       told_now : one_now.value ≡ told a
       told_now = rw rest_length at (one_told tables area t routes x s.pops (mode_for x range.seqno) range rest) ∙ ap told (sym answered)
 
-      value : (ranges : List ExternalsRangeReaderState) (i len : ℕ) → get_or ranges i no_range ≡ range → read_of q.so_far (set ranges i q.range) len ≡ after_turn x i (read_of s ranges len) one_now.value
-      value ranges i len e =
+      done_value : (q : TurnDone) → q ≡ turn_done x s range (told a) → read_of q.so_far (set ranges i q.range) len ≡ after_turn x i (read_of s ranges len) one_now.value
+      done_value q qe =
           ap (λ (d : TurnDone). read_of d.so_far (set ranges i d.range) len) qe
           ∙ (done_at ranges i range e x s len (told a) ∙ ap (after_turn x i (read_of s ranges len)) (sym told_now))
 
-      stored : (read_now p.state).out ≡ sets rest 0 one_now.entries
-      stored = ap (λ (d : Done). (read_now d.state).out) pe ∙ rw rest_length at (one_stored tables area t routes x s.pops (mode_for x range.seqno) range rest)
+      refused_number : (n : ℕ) → (n ≡ 0 → ⊥) → n ≡ a.number → n ≡ (after_turn x i (read_of s ranges len) one_now.value).so_far.number
+      unfolding after_turn
+      refused_number n z ne = rw (told_now, ← ne, ne_eqb n 0 z)
 
-      bytes : (b : Bool) → o ≡ pick b (read_now p.state).out rest → put_mid s.used (length out - s.used) out o ≡ pick b (sets out s.used one_now.entries) out
-      bytes true e = rw (e ∙ stored) (lent_on s.used out one_now.entries (omega (arith, ready.used, ready.room)))
-      bytes false e = rw e (put_same s.used (length out - s.used) out)
+    stored : (read_now p.state).out ≡ sets rest 0 one_now.entries
+    stored = ap (λ (d : Done). (read_now d.state).out) pe ∙ rw rest_length at (one_stored tables area t routes x s.pops (mode_for x range.seqno) range rest)
+
+    bytes : (b : Bool) → o ≡ pick b (read_now p.state).out rest → put_mid s.used (length out - s.used) out o ≡ pick b (sets out s.used one_now.entries) out
+    bytes true e = rw (e ∙ stored) (lent_on s.used out one_now.entries (omega (arith, ready.used, ready.room)))
+    bytes false e = rw e (put_same s.used (length out - s.used) out)
+
+    pub turn_lent : (q : CodeTurn) → done_told q ≡ turn_done x s range (told a) → TurnWrote write (window_read tables area t routes x) x s range out (put_mid s.used (length out - s.used) out o) (Ok q)
+    turn_lent q qe = record { at = λ ranges i len e. rw (turn_at ranges i len e) (record { value = done_value ranges i len e (done_told q) qe; out = bytes write w.out }) }
+
+    pub turn_refused : (r : Refusal) (q : Result CodeTurn Refusal) → q ≡ Err r → number_of r ≡ a.number → TurnWrote write (window_read tables area t routes x) x s range out (put_mid s.used (length out - s.used) out o) q
+    turn_refused r q qe ne = rw qe (record { at = λ ranges i len e. rw (turn_at ranges i len e) (record { value = refused_number ranges i len e (number_of r) (refused_is_not_done r) ne; out = bytes write w.out }) })
 
 -- ---- bounds
 -- what one range's read keeps within, and that it tells the bytes of its entries
@@ -270,7 +277,7 @@ window_fits tables area t routes x pops mode range room =
     let b = one_bounded tables area t routes x pops mode range out in
     rw n at (fits_of (length out) (window_read tables area t routes x pops mode range (length out)) _ e b (one_used tables area t routes x pops mode range out) (one_silent tables area t routes x pops mode range out))
   where
-    fits_of : (n : ℕ) (s : Outcome Told) (a : ReadExternals) → s.value ≡ told a → Bounded n a → a.used ≡ length s.entries → (eqb s.value.number 0 ≡ false → s.entries ≡ []) → Fits n s
+    fits_of : (n : ℕ) (s : Outcome Told) (a : ReadAnswer) → s.value ≡ told a → Bounded n a → a.used ≡ length s.entries → (eqb s.value.number 0 ≡ false → s.entries ≡ []) → Fits n s
     fits_of n s a e b u f =
         record {
           counts = record {
@@ -327,21 +334,10 @@ unfolding turns
 turns_step one x zero i s h e = absurd (omega arith)
 turns_step one x (suc n) i s h e = let m : n ≡ suc n - 1 = omega arith in pick_no (is_over s.value) _ _ e ∙ ap (λ (k : ℕ). turns one x k (i + 1) (followed s (turn one x i s.value))) m
 
-turns_last : (one : OneRange) (x : Fixed) (left i : ℕ) (s : Outcome RangesRead) → (eqb left 0 || is_over s.value) ≡ true → turns one x left i s ≡ s
+turns_last : (one : OneRange) (x : Fixed) (left i : ℕ) (s : Outcome RangesRead) → (0 < left → is_over s.value ≡ true) → turns one x left i s ≡ s
 unfolding turns
 turns_last one x zero i s e = refl
-turns_last one x (suc n) i s e = pick_yes (is_over s.value) _ _ (rw (ne_eqb (suc n) 0 (λ q. omega (arith, q))) at e)
-
-or_false : (a b : Bool) → (a || b) ≡ false → (a ≡ false) × (b ≡ false)
-or_false true b e = absurd (omega (arith, ap (λ (c : Bool). pick {A = ℕ} c 1 0) e))
-or_false false b e = (refl, e)
-
-more_left : (left : ℕ) → eqb left 0 ≡ false → 0 < left
-more_left zero e = absurd (eqb-false 0 0 e refl)
-more_left (suc n) e = omega arith
-
-pub left_some : (left : ℕ) (over : Bool) → (eqb left 0 || over) ≡ false → 0 < left
-left_some left over e = more_left left (or_false (eqb left 0) over e).0
+turns_last one x (suc n) i s e = pick_yes (is_over s.value) _ _ (e (omega arith))
 
 written_more : (write : Bool) (out₀ out out' es fs : List ℕ) (used : ℕ) → used ≡ length es → out ≡ pick write (sets out₀ 0 es) out₀ → out' ≡ pick write (sets out used fs) out → out' ≡ pick write (sets out₀ 0 (es ++ fs)) out₀
 written_more true out₀ out out' es fs used u e f = f ∙ rw (e, u) (let z : 0 + length es ≡ length es = omega arith in sym (sets_append out₀ 0 es fs ∙ ap (λ (n : ℕ). sets (sets out₀ 0 es) n fs) z))
@@ -354,55 +350,69 @@ written_same false used out out' es e = ap (λ (l : List ℕ). length l) e
 weaker : (k m room : ℕ) (r : RangesRead) → k ≤ m → After k room r → After m room r
 weaker k m room r h a = record { few = record { read = λ j. omega (arith, h, a.few.read j); expired = λ j. omega (arith, h, a.few.expired j); buffered = λ j. omega (arith, h, a.few.buffered j) }; pops = omega (arith, h, a.pops); used = a.used }
 
-pub wrote_length : (write : Bool) (used : ℕ) (out out' : List ℕ) (r : RangesRead) (s : Outcome RangesRead) → Wrote write used out out' r s → length out' ≡ length out
-wrote_length write used out out' r s w = written_same write used out out' s.entries w.out
+-- what a result that was not refused says, as an equation
+pub turn_wrote : (write : Bool) (used : ℕ) (out out' : List ℕ) (ranges : List ExternalsRangeReaderState) (i len : ℕ) (q : CodeTurn) (s : Outcome RangesRead)
+    → Tells write used out out' (turn_tells ranges i len (Ok q)) s → Wrote write used out out' (read_of (so_far_told q.so_far) (set ranges i q.range) len) s
+turn_wrote write used out out' ranges i len q s w = record { value = w.value; out = w.out }
 
-pub turn_length : (write : Bool) (one : OneRange) (x : Fixed) (s : SoFar) (range : ExternalsRangeReaderState) (out out' : List ℕ) (q : TurnDone) → TurnWrote write one x s range out out' q → length out' ≡ length out
-turn_length write one x s range out out' q w = wrote_length write s.used out out' _ _ (w.at (range ∷ []) 0 0 refl)
+module _ (write : Bool) (out out' : List ℕ) (r : CodeRanges) (s : Outcome RangesRead) where
+  pub ranges_wrote : Tells write 0 out out' (ranges_tell (Ok r)) s → Wrote write 0 out out' (ranges_told r) s
+  ranges_wrote w = record { value = w.value; out = w.out }
+
+  pub wrote_told : Wrote write 0 out out' (ranges_told r) s → Tells write 0 out out' (ranges_tell (Ok r)) s
+  wrote_told w = record { value = w.value; out = w.out }
 
 module _ (one : OneRange) (fits : (pops : ℕ) (mode : ReadNextExternalsMode) (range : ExternalsRangeReaderState) (room : ℕ) → Fits room (one pops mode range room)) (x : Fixed) (write : Bool) (start : RangesRead) (out₀ : List ℕ) where
-  -- i ranges have had their turn, `left` have not; `entries` are those so far
-  pub record Turning (r : RangesRead) (i left : ℕ) (out : List ℕ) : Type 0 where
+  -- i ranges have had their turn; `entries` are those so far
+  pub record Turning (r : RangesRead) (i : ℕ) (out : List ℕ) : Type 0 where
     pub entries : List ℕ
-    pub counted : i + left ≡ start.len
+    pub counted : i ≤ start.len
     pub after : After i x.room r
     pub bytes : r.so_far.used ≡ length entries
     pub len : r.len ≡ start.len
     pub wrote : out ≡ pick write (sets out₀ 0 entries) out₀
-    pub walked : turns one x left i (record { value = r; entries = entries }) ≡ turns one x start.len 0 (silent start)
+    pub walked : turns one x (start.len - i) i (record { value = r; entries = entries }) ≡ turns one x start.len 0 (silent start)
 
-  pub turning_start : Start x start out₀ → Turning start 0 start.len out₀
-  turning_start s = record { entries = []; counted = omega arith; after = s.after; bytes = s.unused; len = refl; wrote = pick_same write out₀ out₀ refl; walked = refl }
+  pub turning_start : Start x start out₀ → Turning start 0 out₀
+  turning_start s =
+      let z : start.len - 0 ≡ start.len = omega arith in
+      record { entries = []; counted = omega arith; after = s.after; bytes = s.unused; len = refl; wrote = pick_same write out₀ out₀ refl; walked = rw z }
 
-  pub turning_next : (r : RangesRead) (i left : ℕ) (out : List ℕ) → Turning r i left out → (eqb left 0 || is_over r) ≡ false → (q : RangesRead) (out' : List ℕ) → Wrote write r.so_far.used out out' q (turn one x i r) → Turning q (i + 1) (left - 1) out'
-  turning_next r i left out h g q out' w =
-      let p = left_some left (is_over r) g in
-      let e = (or_false (eqb left 0) (is_over r) g).1 in
+  pub turning_next : (r : RangesRead) (i : ℕ) (out : List ℕ) → Turning r i out → i < start.len → is_over r ≡ false → (q : RangesRead) (out' : List ℕ) → Wrote write r.so_far.used out out' q (turn one x i r) → Turning q (i + 1) out'
+  turning_next r i out h more e q out' w =
       let k = turn_kept one fits x i r i h.after in
       let s = turn one x i r in
+      let z : start.len - i - 1 ≡ start.len - (i + 1) = omega arith in
       record {
         entries = h.entries ++ s.entries;
-        counted = omega (arith, h.counted);
+        counted = omega arith;
         after = rw w.value k.after;
         bytes = rw w.value (k.bytes ∙ (ap (λ (n : ℕ). n + length s.entries) h.bytes ∙ sym (length-append h.entries s.entries)));
         len = rw w.value (k.len ∙ h.len);
         wrote = written_more write out₀ out out' h.entries s.entries r.so_far.used h.bytes h.wrote w.out;
-        walked = rw w.value (sym (turns_step one x left i (record { value = r; entries = h.entries }) p e) ∙ h.walked);
+        walked = rw (w.value, ← z) (sym (turns_step one x (start.len - i) i (record { value = r; entries = h.entries }) (omega arith) e) ∙ h.walked);
       }
 
-  pub turning_last : (r : RangesRead) (i left : ℕ) (out : List ℕ) → Turning r i left out → (eqb left 0 || is_over r) ≡ true → Wrote write 0 out₀ out r (turns one x start.len 0 (silent start))
-  turning_last r i left out h e = rw (sym h.walked ∙ turns_last one x left i (record { value = r; entries = h.entries }) e) (record { value = refl; out = h.wrote })
+  -- a refused range's turn is the last one
+  pub turning_refused : (r : RangesRead) (i : ℕ) (out : List ℕ) → Turning r i out → i < start.len → is_over r ≡ false → (e : Refusal) (out' : List ℕ) → Tells write r.so_far.used out out' (λ v. number_of e ≡ v.so_far.number) (turn one x i r)
+      → Tells write 0 out₀ out' (λ v. number_of e ≡ v.so_far.number) (turns one x start.len 0 (silent start))
+  turning_refused r i out h more going e out' w =
+      let s = turn one x i r in
+      let stop : is_over s.value ≡ true = rw (← w.value, ne_eqb (number_of e) 0 (refused_is_not_done e)) in
+      rw (sym h.walked ∙ (turns_step one x (start.len - i) i (record { value = r; entries = h.entries }) (omega arith) going ∙ turns_last one x (start.len - i - 1) (i + 1) (followed (record { value = r; entries = h.entries }) s) (λ p. stop)))
+      (record { value = w.value; out = written_more write out₀ out out' h.entries s.entries r.so_far.used h.bytes h.wrote w.out })
 
-  pub turning_length : (r : RangesRead) (i left : ℕ) (out : List ℕ) → Turning r i left out → length out ≡ length out₀
-  turning_length r i left out h = written_same write 0 out₀ out h.entries h.wrote
+  pub turning_last : (r : RangesRead) (i : ℕ) (out : List ℕ) → Turning r i out → (i < start.len → is_over r ≡ true) → Wrote write 0 out₀ out r (turns one x start.len 0 (silent start))
+  turning_last r i out h e =
+      rw (sym h.walked ∙ turns_last one x (start.len - i) i (record { value = r; entries = h.entries }) (λ p. e (omega arith))) (record { value = refl; out = h.wrote })
 
-  pub turning_slot : Start x start out₀ → (r : RangesRead) (i left : ℕ) (out : List ℕ) → Turning r i left out → (eqb left 0 || is_over r) ≡ false → i < max_ranges
-  turning_slot st r i left out h e = omega (arith, h.counted, st.slots, left_some left (is_over r) e)
+  pub turning_length : (r : RangesRead) (i : ℕ) (out : List ℕ) → Turning r i out → length out ≡ length out₀
+  turning_length r i out h = written_same write 0 out₀ out h.entries h.wrote
 
-  pub turning_ready : Start x start out₀ → (s : SoFar) (ranges : List ExternalsRangeReaderState) (len i left : ℕ) (out : List ℕ) → Turning (read_of s ranges len) i left out → TurnRoom x s out
-  turning_ready st s ranges len i left out h =
+  pub turning_ready : Start x start out₀ → (s : SoFar) (ranges : List ExternalsRangeReaderState) (len i : ℕ) (out : List ℕ) → Turning (read_of s ranges len) i out → TurnRoom x s out
+  turning_ready st s ranges len i out h =
       let a = weaker i max_ranges x.room (read_of s ranges len) (omega (arith, h.counted, st.slots)) h.after in
-      record { few = a.few; pops = a.pops; used = a.used; room = turning_length (read_of s ranges len) i left out h ∙ st.room; small = st.small }
+      record { few = a.few; pops = a.pops; used = a.used; room = turning_length (read_of s ranges len) i out h ∙ st.room; small = st.small }
 
 -- ---- all the turns
 module _ (one : OneRange) (fits : (pops : ℕ) (mode : ReadNextExternalsMode) (range : ExternalsRangeReaderState) (room : ℕ) → Fits room (one pops mode range room)) (x : Fixed) where
@@ -487,7 +497,7 @@ module _ (one : OneRange) (fits : (pops : ℕ) (mode : ReadNextExternalsMode) (r
       appended_at range e = ap (λ (y : ExternalsRangeReaderState). read_of s (set ranges len y) (len + 1)) e
 
       pub next_done : wants_next x (read_of s ranges len) ≡ true → length ranges ≡ max_ranges → (range : ExternalsRangeReaderState) → range ≡ next_range x.block_seqno x.next_chain_time x.by_partitions ranges len
-          → (q : TurnDone) (out' : List ℕ) → TurnWrote write one x s range out out' q → Wrote write 0 out₀ out' (read_of q.so_far (set ranges len q.range) (len + 1)) (ranges_read one x start)
+          → (q : CodeTurn) (out' : List ℕ) → TurnWrote write one x s range out out' (Ok q) → Wrote write 0 out₀ out' (read_of (so_far_told q.so_far) (set ranges len q.range) (len + 1)) (ranges_read one x start)
       unfolding ranges_read
       next_done h long range re q out' v =
           let e : read_of s (set ranges len range) (len + 1) ≡ with_next_range x now = appended_at range re in
@@ -496,9 +506,31 @@ module _ (one : OneRange) (fits : (pops : ℕ) (mode : ReadNextExternalsMode) (r
           let u : s.used ≡ length whole.entries = ap (λ (y : RangesRead). y.so_far.used) w.value ∙ whole_told.bytes in
           rw (pick_yes (wants_next x whole.value) longer whole (ap (wants_next x) (sym w.value) ∙ h))
           (record {
-            value = ap (λ (l : List ExternalsRangeReaderState). read_of q.so_far l (len + 1)) (sym (set-set ranges len range q.range)) ∙ (z.value ∙ ap (λ (t : Outcome RangesRead). t.value) f);
+            value = ap (λ (l : List ExternalsRangeReaderState). read_of (so_far_told q.so_far) l (len + 1)) (sym (set-set ranges len range q.range)) ∙ (z.value ∙ ap (λ (t : Outcome RangesRead). t.value) f);
             out = written_more write out₀ out out' whole.entries (turn one x whole.value.len (with_next_range x whole.value)).entries s.used u w.out (z.out ∙ ap (λ (t : Outcome RangesRead). pick write (sets out s.used t.entries) out) f);
           })
+
+      pub next_refused : wants_next x (read_of s ranges len) ≡ true → length ranges ≡ max_ranges → (range : ExternalsRangeReaderState) → range ≡ next_range x.block_seqno x.next_chain_time x.by_partitions ranges len
+          → (r : Refusal) (out' : List ℕ) → TurnWrote write one x s range out out' (Err r) → (q : Result CodeRanges Refusal) → q ≡ Err r → Tells write 0 out₀ out' (ranges_tell q) (ranges_read one x start)
+      unfolding ranges_read
+      next_refused h long range re r out' v q qe =
+          let e : read_of s (set ranges len range) (len + 1) ≡ with_next_range x now = appended_at range re in
+          let z = v.at (set ranges len range) len (len + 1) (get_or-set_same ranges len range no_range (omega (arith, long, next_room h))) in
+          let f : turn one x len (read_of s (set ranges len range) (len + 1)) ≡ turn one x whole.value.len (with_next_range x whole.value) = ap (turn one x len) e ∙ ap (λ (y : RangesRead). turn one x y.len (with_next_range x y)) w.value in
+          let u : s.used ≡ length whole.entries = ap (λ (y : RangesRead). y.so_far.used) w.value ∙ whole_told.bytes in
+          rw (qe, pick_yes (wants_next x whole.value) longer whole (ap (wants_next x) (sym w.value) ∙ h))
+          (record {
+            value = z.value ∙ ap (λ (t : Outcome RangesRead). t.value.so_far.number) f;
+            out = written_more write out₀ out out' whole.entries (turn one x whole.value.len (with_next_range x whole.value)).entries s.used u w.out (z.out ∙ ap (λ (t : Outcome RangesRead). pick write (sets out s.used t.entries) out) f);
+          })
+
+    -- a refusal in the turns is the read's
+    pub all_refused : (r : Refusal) (out : List ℕ) → Tells write 0 out₀ out (λ v. number_of r ≡ v.so_far.number) (turns one x start.len 0 (silent start))
+        → (q : Result CodeRanges Refusal) → q ≡ Err r → Tells write 0 out₀ out (ranges_tell q) (ranges_read one x start)
+    unfolding ranges_read wants_next
+    all_refused r out w q qe =
+        let n : eqb whole.value.so_far.number 0 ≡ false = rw (← w.value) (ne_eqb (number_of r) 0 (refused_is_not_done r)) in
+        rw (qe, n) (record { value = w.value; out = w.out })
 
 -- a first run that used no byte has written what a second one would
 pub nothing_used : (out o : List ℕ) (r : RangesRead) (s : Outcome RangesRead) → Wrote false 0 out o r s → s.value.so_far.used ≡ length s.entries → r.so_far.used ≡ 0 → Wrote true 0 o o r s

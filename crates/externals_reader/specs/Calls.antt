@@ -1,39 +1,31 @@
 -- What each public call answers, for every argument.
-use Rattle.std.specs.Prelude.{ℕ, Bool, false, List, [], ◌∷◌, map, eqb, length, replicate}
+use Rattle.std.specs.Prelude.{ℕ, Bool, false, List, [], ◌∷◌, map, eqb, length, replicate, Option, None, Some}
 use Rattle.std.proofs.lemmas.List.Edits.{sets}
 use Rattle.rows.specs.Rows.{pick}
 use Rattle.reader_rules.specs.State.{settled_number, reader_number, all_questions, with_state, with_mark, with_limits, with_last, state_number}
 use Rattle.reader_rules.specs.Rules.{state_entered, fixed_of, at_entry, range_from, next_range, Told, OneRange, ranges_read, time_saved}
+use Rattle.ext_types.specs.declared.ExternalKey.{ExternalKey}
 use Rattle.ext_types.specs.declared.ChainTime.{ChainTime}
 use Rattle.shard_ident.specs.declared.ShardIdent.{ShardIdent}
 use Rattle.messages_buffer.specs.Fullness.{first_no, no_partition}
+use Rattle.anchors_cache.specs.declared.AnchorInfo.{AnchorInfo}
 use Rattle.anchors_cache.specs.declared.AnchorsCacheTransaction.{AnchorsCacheTransaction}
-use Rattle.anchors_cache.specs.declared.FoundInfo.{FoundInfo}
-use Rattle.anchors_cache.specs.declared.FoundInfo.TheVariants as found
 use Rattle.cache_rules.specs.Rules.{last_of}
 use Rattle.anchors_cache.specs.Tables.{history_of}
 use Rattle.anchors_cache.specs.declared.AnchorsCache.{AnchorsCache}
 use Rattle.anchors_cache.specs.Calls.{refusal, pops_call, info_found}
 use Rattle.range_rules.specs.declared.ExternalsRangeReaderState.{ExternalsRangeReaderState}
-use Rattle.range_reader.specs.declared.ReadExternals.{ReadExternals}
-use Rattle.range_rules.specs.declared.RangeRead.{RangeRead}
-use Rattle.range_rules.specs.declared.LastChainTime.TheVariants.{Nothing}
+use Rattle.range_rules.specs.Walks.{RangeRead}
 use Rattle.range_rules.specs.Rules.{Outcome, silent, key_at, no_key, no_counts}
-use Rattle.range_reader.specs.Calls.{asked_number, range_read, refused_answer, done_answer}
+use Rattle.range_reader.specs.Calls.{ReadAnswer, asked_number, range_read, refused_answer, done_answer}
 use Rattle.reader_rules.specs.declared.ExternalsPartitionReaderState.{ExternalsPartitionReaderState}
 use Rattle.reader_rules.specs.declared.ExternalsReaderState.{ExternalsReaderState}
 use Rattle.reader_rules.specs.declared.MsgsExecutionParams.{MsgsExecutionParams}
 use Rattle.reader_rules.specs.declared.ExternalsReader.{ExternalsReader}
 use Rattle.reader_rules.specs.declared.GetNextMessageGroupMode.{GetNextMessageGroupMode}
-use Rattle.externals_reader.specs.declared.ReaderDone.{ReaderDone}
-use Rattle.externals_reader.specs.declared.PartitionIds.{PartitionIds}
-use Rattle.externals_reader.specs.declared.NextRange.{NextRange}
-use Rattle.externals_reader.specs.declared.ReadIntoBuffers.{ReadIntoBuffers}
-use Rattle.reader_rules.specs.declared.Imported.{Imported}
-use Rattle.reader_rules.specs.declared.Imported.TheVariants as imported
-use Rattle.reader_rules.specs.declared.LastFree.TheVariants as lastFree
+use Rattle.externals_reader.specs.Answers.{ReaderDone, PartitionIds, NextRange, ReadAllAnswer}
 use Rattle.reader_rules.specs.declared.Fixed.{Fixed}
-use Rattle.reader_rules.specs.declared.RangesRead.{RangesRead}
+use Rattle.reader_rules.specs.Turns.{RangesRead}
 
 -- a refusal gives only the number
 abbrev pub changed : ℕ → ExternalsReader → ExternalsReader → ReaderDone
@@ -63,7 +55,7 @@ unfoldable pub reset_call : ExternalsReader → ReaderDone
 reset_call r = changed (state_number r.reader_state) r (with_mark r false)
 
 unfoldable pub drop_last_call : ExternalsReader → ReaderDone
-drop_last_call r = changed (state_number r.reader_state) r (with_state r (with_last r.reader_state Nothing))
+drop_last_call r = changed (state_number r.reader_state) r (with_state r (with_last r.reader_state None))
 
 -- question 4 of the settings that the reader then has
 unfoldable pub set_limits_call : ExternalsReader → List ℕ → ReaderDone
@@ -89,11 +81,11 @@ next_range_call r =
     }
 
 -- ---- the read
-abbrev pub end_of : FoundInfo → Imported
-end_of found.Nothing = imported.Nothing
-end_of (found.Info i) = imported.End (key_at i.id i.all_exts_count)
+abbrev pub end_of : Option AnchorInfo → Option ExternalKey
+end_of None = None
+end_of (Some i) = Some (key_at i.id i.all_exts_count)
 
-abbrev pub told : ReadExternals → Told
+abbrev pub told : ReadAnswer → Told
 told a =
     record {
       number = a.number;
@@ -117,7 +109,7 @@ window_read tables area t routes x pops mode range room =
     told_by (first_no (asked_number tables area u x.shard routes x.limits range ∷ s.value.walk.number ∷ [])) u range s
 
 -- the last imported entry's id and message count; pops never remove that entry
-abbrev pub imported_in : List ℕ → AnchorsCache → Imported
+abbrev pub imported_in : List ℕ → AnchorsCache → Option ExternalKey
 imported_in tables c = end_of (info_found (last_of (history_of tables c)))
 
 unfoldable pub all_ranges_read : List ℕ → List ℕ → AnchorsCacheTransaction → List ℕ → ExternalsReader → GetNextMessageGroupMode → ℕ → Outcome RangesRead
@@ -139,12 +131,12 @@ reader_after r q =
 
 -- the answer, and the lent output's bytes
 pub record ReadAllResult : Type 0 where
-  pub answer : ReadIntoBuffers
+  pub answer : ReadAllAnswer
   pub out : List ℕ
 
 -- a refusal, and a call that does nothing
 abbrev pub unchanged : ℕ → ExternalsReader → AnchorsCacheTransaction → List ℕ → ReadAllResult
-unchanged number r t out = record { answer = record { number = number; free = lastFree.Nothing; used = 0; counts = no_counts; reader = r; state = t }; out = out }
+unchanged number r t out = record { answer = record { number = number; free = None; used = 0; counts = no_counts; reader = r; state = t }; out = out }
 
 abbrev pub all_result : List ℕ → List ℕ → AnchorsCacheTransaction → ExternalsReader → Outcome RangesRead → List ℕ → ReadAllResult
 all_result tables area t r s out =

@@ -1,5 +1,5 @@
--- What the read of all holds in its locals beside the ranges, and the `RangesRead` that both stand for.
-use Rattle.std.specs.Prelude.{ℕ, Bool, not, ◌||◌, List, [], ◌∷◌, eqb, length}
+-- What a range's turn comes to, and the answer of a read of all.
+use Rattle.std.specs.Prelude.{ℕ, List, [], ◌∷◌, eqb, length}
 use Rattle.rows.specs.Rows.{pick}
 use Rattle.messages_buffer.specs.Fullness.{first_no}
 use Rattle.anchors_cache.specs.declared.AnchorsCacheTransaction.{AnchorsCacheTransaction}
@@ -7,10 +7,8 @@ use Rattle.anchors_cache.specs.Calls.{pops_call}
 use Rattle.range_rules.specs.declared.ExternalsRangeReaderState.{ExternalsRangeReaderState}
 use Rattle.reader_rules.specs.declared.ExternalsReader.{ExternalsReader}
 use Rattle.reader_rules.specs.declared.Fixed.{Fixed}
-use Rattle.reader_rules.specs.declared.RangesRead.{RangesRead}
-use Rattle.externals_reader.specs.declared.ReadIntoBuffers.{ReadIntoBuffers}
-use Rattle.reader_rules.specs.declared.SoFar.{SoFar}
-use Rattle.externals_reader.specs.declared.TurnDone.{TurnDone}
+use Rattle.reader_rules.specs.Turns.{SoFar, RangesRead}
+use Rattle.externals_reader.specs.Answers.{ReadAllAnswer}
 use Rattle.reader_rules.specs.State.{ranges_number, settings_number}
 use Rattle.reader_rules.specs.Rules.{settled, Told, added, numbered}
 use Rattle.externals_reader.specs.Calls.{reader_after}
@@ -20,16 +18,17 @@ abbrev pub pieces_number : List ℕ → ℕ → List ExternalsRangeReaderState �
 pieces_number limits most ranges len = first_no (settings_number limits most ∷ ranges_number ranges len ∷ [])
 
 -- ---- the read
+-- a range after its turn, and what the read has come to with it
+pub record TurnDone : Type 0 where
+  pub so_far : SoFar
+  pub range : ExternalsRangeReaderState
+
 -- what a range's read makes of what the turns before came to, and of the range: a refused one stays
 unfoldable pub turn_done : Fixed → SoFar → ExternalsRangeReaderState → Told → TurnDone
 turn_done x s range a = pick (eqb a.number 0) (record { so_far = added s a; range = settled x a.range }) (record { so_far = numbered a.number s; range = range })
 
--- no range is left, or the turns are over
-abbrev pub turns_over : SoFar → ℕ → Bool
-turns_over s left = eqb left 0 || (not (eqb s.number 0) || s.stopped)
-
 -- the answer of a read that was not refused
-abbrev pub read_answered : List ℕ → List ℕ → AnchorsCacheTransaction → ExternalsReader → RangesRead → ReadIntoBuffers
+abbrev pub read_answered : List ℕ → List ℕ → AnchorsCacheTransaction → ExternalsReader → RangesRead → ReadAllAnswer
 read_answered tables area t reader r =
     record {
       number = 0;

@@ -1,20 +1,24 @@
 // The externals reader: its ranges, its partitions, and the read of all ranges.
-// A refused call answers the number and leaves reader, transaction and every output byte as at entry.
+// A refused call answers why and leaves reader, transaction and every output byte as at entry.
 #![tactic(auto)]
 
-ghost use Rattle.std.specs.Prelude.{◌<◌, ◌^◌, ◌≡◌, []};
-ghost use Rattle.reader_rules.specs.State.{state_number, settings_number, open_ranges_limit_of, with_state, with_mark};
+ghost use Rattle.std.specs.Prelude.{◌<◌, ◌^◌, ◌≡◌, [], Ok};
+ghost use Rattle.reader_rules.specs.State.{state_number, settings_number, open_ranges_limit_of, with_state};
+ghost use Rattle.refusals.specs.Refusals.{number};
+ghost use Rattle.externals_reader.specs.Answers.{reader_done_of, partition_ids_of, next_range_of, read_all_answer_of};
 ghost use Rattle.externals_reader.specs.Calls.{handed_in, new_call, reset_call, drop_last_call, set_limits_call, partition_ids_call, next_range_call, unchanged, reader_after, read_all_call};
 ghost use Rattle.reader_rules.specs.Rules.{fixed_of};
 ghost use Rattle.externals_reader.specs.Locals.{read_answered};
+ghost use Rattle.externals_reader.specs.Ready.{ranges_told};
 
 use anchors_cache::AnchorsCacheTransaction;
-use ext_types::ChainTime;
-use range_rules::{ExternalsRangeReaderState, LastChainTime, NO_COUNTS, ReadCounts};
+use ext_types::{ChainTime, ExternalKey};
+use range_rules::{ExternalsRangeReaderState, NO_COUNTS, ReadCounts};
 use reader_rules::{
-    ExternalsReader, ExternalsReaderState, Fixed, GetNextMessageGroupMode, Imported, LastFree,
-    MAX_OPEN_RANGES, MsgsExecutionParams, RangesRead, SoFar,
+    ExternalsReader, ExternalsReaderState, Fixed, GetNextMessageGroupMode, MAX_OPEN_RANGES,
+    MAX_RANGES, MsgsExecutionParams,
 };
+use refusals::Refusal;
 use shard_ident::ShardIdent;
 
 mod next;
@@ -22,93 +26,81 @@ mod questions;
 mod ranges;
 mod turns;
 
-// The answer of a call that changes the reader.
-#[derive(Clone, Copy)]
-pub struct ReaderDone {
-    pub number: u8,
-    pub reader: ExternalsReader,
-}
-
-// Which partitions there are.
-#[repr(C)]
-#[derive(Clone, Copy)]
-pub struct PartitionIds {
-    pub number: u8,
-    pub present: [bool; 8],
-}
-
-#[repr(C)]
-#[derive(Clone, Copy)]
-pub struct NextRange {
-    pub number: u8,
-    pub range: ExternalsRangeReaderState,
-}
-
 // `free` is what the last range read reported; `used` bytes of the output hold the entries.
-#[derive(Clone, Copy)]
+#[derive(Clone, Copy, Debug, PartialEq, Eq)]
 pub struct ReadIntoBuffers {
-    pub number: u8,
-    pub free: LastFree,
+    pub free: Option<u16>,
     pub used: usize,
     pub counts: ReadCounts,
     pub reader: ExternalsReader,
     pub state: AnchorsCacheTransaction,
 }
 
+// What the turns so far have come to: the pops, the bytes used, whether every range so far is fully read, whether a
+// full buffer stopped the read, and what the last range read reported.
+#[derive(Clone, Copy, Debug, PartialEq, Eq)]
+pub struct SoFar {
+    pub pops: usize,
+    pub used: usize,
+    pub all_read: bool,
+    pub stopped: bool,
+    pub free: Option<u16>,
+    pub last: Option<ChainTime>,
+    pub counts: ReadCounts,
+}
+
+// The same with the ranges as they are now.
+#[derive(Clone, Copy, Debug, PartialEq, Eq)]
+pub struct RangesRead {
+    pub so_far: SoFar,
+    pub ranges: [ExternalsRangeReaderState; MAX_RANGES],
+    pub len: usize,
+}
+
 // A range after its turn, and what the read has come to with it.
-#[derive(Clone, Copy)]
+#[derive(Clone, Copy, Debug, PartialEq, Eq)]
 pub struct TurnDone {
     pub so_far: SoFar,
     pub range: ExternalsRangeReaderState,
 }
 
-// Question 5 of a reader's state: 0 or 5.
-pub fn check_state(state: ExternalsReaderState) -> u8
-    ensures { result ≡ state_number state }
+// Question 5 of a reader's state.
+#[tactic(auto, using(std::proofs::lemmas::Bool::Decides::nat_tests), unfolding(reader_rules::specs::State::state_number))]
+pub fn check_state(state: ExternalsReaderState) -> Result<(), Refusal>
+    ensures { number result ≡ state_number state }
 {
-    let ranges = state.ranges;
-    questions::ranges_number(ranges, state.len)
+    questions::check_ranges(state.ranges, state.len)
 }
 
-// Question 4, of the limits and of the open-ranges limit: 0 or 4.
-pub fn check_settings(limits: [u16; 8], open_ranges_limit: u8) -> u8
-    ensures { result ≡ settings_number limits open_ranges_limit }
+// Question 4, of the limits and of the open-ranges limit.
+#[tactic(auto, using(crate::proofs::Refused::next_yes, crate::proofs::Refused::next_no, messages_buffer::proofs::Laws::first_alone, std::proofs::lemmas::Bool::Decides::nat_tests), unfolding(reader_rules::specs::State::settings_number))]
+pub fn check_settings(limits: [u16; 8], open_ranges_limit: u8) -> Result<(), Refusal>
+    ensures { number result ≡ settings_number limits open_ranges_limit }
 {
-    let of_limits = messages_buffer::check_limits(limits);
-    if of_limits != 0 {
-        return of_limits;
-    }
+    messages_buffer::check_limits(limits)?;
     if MAX_OPEN_RANGES < open_ranges_limit {
-        return 4;
+        return Err(Refusal::LimitTooHigh);
     }
-    0
+    Ok(())
 }
 
 // The limit that counts, as the Rust's `open_ranges_limit()`: never below 2.
 pub fn open_ranges_limit(params: MsgsExecutionParams) -> usize
     ensures { result ≡ open_ranges_limit_of params }
 {
-    let most = params.open_ranges_limit;
-    if most < 2 {
+    if params.open_ranges_limit < 2 {
         return 2;
     }
-    most as usize
+    usize::from(params.open_ranges_limit)
 }
 
 fn with_state(reader: ExternalsReader, state: ExternalsReaderState) -> ExternalsReader
     ensures { result ≡ with_state reader state }
 {
-    let mut r = reader;
-    r.reader_state = state;
-    r
-}
-
-fn with_mark(reader: ExternalsReader, mark: bool) -> ExternalsReader
-    ensures { result ≡ with_mark reader mark }
-{
-    let mut r = reader;
-    r.all_ranges_fully_read = mark;
-    r
+    ExternalsReader {
+        reader_state: state,
+        ..reader
+    }
 }
 
 // A reader over a state: each partition that has a limit gets a record, if it has none, and a range is fully read
@@ -120,206 +112,140 @@ pub fn new(
     msgs_exec_params: MsgsExecutionParams,
     buffer_limits_by_partitions: [u16; 8],
     reader_state: ExternalsReaderState,
-) -> ReaderDone
-    ensures { result ≡ new_call (handed_in for_shard_id block_seqno next_chain_time msgs_exec_params buffer_limits_by_partitions reader_state) }
+) -> Result<ExternalsReader, Refusal>
+    ensures { let handed = handed_in for_shard_id block_seqno next_chain_time msgs_exec_params buffer_limits_by_partitions reader_state in
+        reader_done_of handed result ≡ new_call handed }
 {
     let reader = ExternalsReader {
-        for_shard_id: for_shard_id,
-        block_seqno: block_seqno,
-        next_chain_time: next_chain_time,
-        msgs_exec_params: msgs_exec_params,
-        buffer_limits_by_partitions: buffer_limits_by_partitions,
-        reader_state: reader_state,
+        for_shard_id,
+        block_seqno,
+        next_chain_time,
+        msgs_exec_params,
+        buffer_limits_by_partitions,
+        reader_state,
         all_ranges_fully_read: false,
     };
-    let number = questions::asked_of_reader(reader);
-    if number != 0 {
-        return ReaderDone {
-            number: number,
-            reader: reader,
-        };
-    }
+    questions::check_reader(reader)?;
     let state = ranges::entered(buffer_limits_by_partitions, reader_state);
-    ReaderDone {
-        number: 0,
-        reader: with_state(reader, state),
-    }
+    Ok(with_state(reader, state))
 }
 
-pub fn reset_read_state(reader: ExternalsReader) -> ReaderDone
-    ensures { result ≡ reset_call reader }
+#[tactic(auto, using(crate::proofs::Refused::change_done, crate::proofs::Refused::change_refused), unfolding(crate::specs::Calls::reset_call))]
+pub fn reset_read_state(reader: ExternalsReader) -> Result<ExternalsReader, Refusal>
+    ensures { reader_done_of reader result ≡ reset_call reader }
 {
-    let number = check_state(reader.reader_state);
-    if number != 0 {
-        return ReaderDone {
-            number: number,
-            reader: reader,
-        };
-    }
-    ReaderDone {
-        number: 0,
-        reader: with_mark(reader, false),
-    }
+    check_state(reader.reader_state)?;
+    Ok(ExternalsReader {
+        all_ranges_fully_read: false,
+        ..reader
+    })
 }
 
-pub fn drop_last_read_to_anchor_chain_time(reader: ExternalsReader) -> ReaderDone
-    ensures { result ≡ drop_last_call reader }
+#[tactic(auto, using(crate::proofs::Refused::change_done, crate::proofs::Refused::change_refused), unfolding(crate::specs::Calls::drop_last_call))]
+pub fn drop_last_read_to_anchor_chain_time(
+    reader: ExternalsReader,
+) -> Result<ExternalsReader, Refusal>
+    ensures { reader_done_of reader result ≡ drop_last_call reader }
 {
-    let old = reader.reader_state;
-    let number = check_state(old);
-    if number != 0 {
-        return ReaderDone {
-            number: number,
-            reader: reader,
-        };
-    }
-    let last = LastChainTime::Nothing;
-    let state = ranges::with_last(old, last);
-    ReaderDone {
-        number: 0,
-        reader: with_state(reader, state),
-    }
+    check_state(reader.reader_state)?;
+    Ok(with_state(reader, ranges::with_last(reader.reader_state, None)))
 }
 
-pub fn set_buffer_limits_by_partition(reader: ExternalsReader, limits: [u16; 8]) -> ReaderDone
-    ensures { result ≡ set_limits_call reader limits }
+#[tactic(auto, using(crate::proofs::Refused::next_yes, crate::proofs::Refused::next_no, messages_buffer::proofs::Laws::first_alone, crate::proofs::Refused::change_done, crate::proofs::Refused::change_refused), unfolding(crate::specs::Calls::set_limits_call, reader_rules::specs::State::settled_number))]
+pub fn set_buffer_limits_by_partition(
+    reader: ExternalsReader,
+    limits: [u16; 8],
+) -> Result<ExternalsReader, Refusal>
+    ensures { reader_done_of reader result ≡ set_limits_call reader limits }
 {
-    let params = reader.msgs_exec_params;
-    let of_settings = check_settings(limits, params.open_ranges_limit);
-    if of_settings != 0 {
-        return ReaderDone {
-            number: of_settings,
-            reader: reader,
-        };
-    }
-    let number = check_state(reader.reader_state);
-    if number != 0 {
-        return ReaderDone {
-            number: number,
-            reader: reader,
-        };
-    }
-    let mut r = reader;
-    r.buffer_limits_by_partitions = limits;
-    ReaderDone {
-        number: 0,
-        reader: r,
-    }
+    check_settings(limits, reader.msgs_exec_params.open_ranges_limit)?;
+    check_state(reader.reader_state)?;
+    Ok(ExternalsReader {
+        buffer_limits_by_partitions: limits,
+        ..reader
+    })
 }
 
-pub fn get_partition_ids(reader: ExternalsReader) -> PartitionIds
-    ensures { result ≡ partition_ids_call reader }
+// Which partitions there are.
+#[tactic(auto, using(crate::proofs::Refused::ids_refused), unfolding(crate::specs::Calls::partition_ids_call))]
+pub fn get_partition_ids(reader: ExternalsReader) -> Result<[bool; 8], Refusal>
+    ensures { partition_ids_of result ≡ partition_ids_call reader }
 {
-    let state = reader.reader_state;
-    let number = check_state(state);
-    if number != 0 {
-        return PartitionIds {
-            number: number,
-            present: [false; 8],
-        };
-    }
-    let parts = state.by_partitions;
-    PartitionIds {
-        number: 0,
-        present: ranges::present_in(parts),
-    }
+    check_state(reader.reader_state)?;
+    Ok(ranges::present_in(reader.reader_state.by_partitions))
 }
 
 // The range that a block would append: it begins where the last one ends.
-pub fn create_next_externals_range_state(reader: ExternalsReader) -> NextRange
-    ensures { result ≡ next_range_call reader }
+pub fn create_next_externals_range_state(
+    reader: ExternalsReader,
+) -> Result<ExternalsRangeReaderState, Refusal>
+    ensures { next_range_of result ≡ next_range_call reader }
 {
     let state = reader.reader_state;
-    let number = check_state(state);
-    if number != 0 {
-        return NextRange {
-            number: number,
-            range: next::no_range(),
-        };
-    }
-    let parts = state.by_partitions;
-    let ranges = state.ranges;
-    let time = reader.next_chain_time;
-    let at = rows::last_place(state.len);
-    let last = ranges[at];
-    NextRange {
-        number: 0,
-        range: next::next_range(reader.block_seqno, time, parts, last, state.len),
-    }
+    check_state(state)?;
+    let last = state.ranges[rows::last_place(state.len)];
+    Ok(next::next_range(
+        reader.block_seqno,
+        reader.next_chain_time,
+        state.by_partitions,
+        last,
+        state.len,
+    ))
 }
 
 fn fixed_at_entry(
     reader: ExternalsReader,
     mode: GetNextMessageGroupMode,
-    imported: Imported,
+    imported: Option<ExternalKey>,
     room: usize,
 ) -> Fixed
     ensures { (result ≡ fixed_of reader mode imported room) × (room < 2 ^ 64) }
 {
-    let state = reader.reader_state;
-    let shard = reader.for_shard_id;
-    let time = reader.next_chain_time;
-    let params = reader.msgs_exec_params;
     let limits = reader.buffer_limits_by_partitions;
-    let parts = state.by_partitions;
-    let processed = ranges::processed_in(parts);
+    let by_partitions = reader.reader_state.by_partitions;
     Fixed {
-        shard: shard,
+        shard: reader.for_shard_id,
         block_seqno: reader.block_seqno,
-        next_chain_time: time,
-        params: params,
-        limits: limits,
-        mode: mode,
-        by_partitions: parts,
-        processed: processed,
-        imported: imported,
-        room: room,
+        next_chain_time: reader.next_chain_time,
+        params: reader.msgs_exec_params,
+        limits,
+        mode,
+        by_partitions,
+        processed: ranges::processed_in(by_partitions),
+        imported,
+        room,
     }
 }
 
-fn answered(number: u8, reader: ExternalsReader, t: AnchorsCacheTransaction) -> ReadIntoBuffers
-    ensures { result ≡ (unchanged number reader t []).answer }
+// The answer of a call that does nothing.
+fn unread(reader: ExternalsReader, t: AnchorsCacheTransaction) -> ReadIntoBuffers
+    ensures { read_all_answer_of reader t (Ok result) ≡ (unchanged 0 reader t []).answer }
 {
-    let free = LastFree::Nothing;
     ReadIntoBuffers {
-        number: number,
-        free: free,
+        free: None,
         used: 0,
         counts: NO_COUNTS,
-        reader: reader,
+        reader,
         state: t,
     }
 }
 
 // What the reader is after the ranges were read: the saved chain time changes only if the last range read saw one.
 fn reader_after(reader: ExternalsReader, r: RangesRead) -> ExternalsReader
-    ensures { result ≡ reader_after reader r }
+    ensures { result ≡ reader_after reader (ranges_told r) }
 {
-    let old = reader.reader_state;
-    let saved = old.last_read_to_anchor_chain_time;
-    let so_far = r.so_far;
-    let seen = so_far.last;
-    let last = turns::time_saved(seen, saved);
-    let parts = old.by_partitions;
     let ranges = r.ranges;
-    let state = ExternalsReaderState {
-        ranges: ranges,
-        len: r.len,
-        by_partitions: parts,
-        last_read_to_anchor_chain_time: last,
-    };
-    let shard = reader.for_shard_id;
-    let time = reader.next_chain_time;
-    let params = reader.msgs_exec_params;
-    let limits = reader.buffer_limits_by_partitions;
+    let old = reader.reader_state;
+    let last = turns::time_saved(r.so_far.last, old.last_read_to_anchor_chain_time);
     ExternalsReader {
-        for_shard_id: shard,
-        block_seqno: reader.block_seqno,
-        next_chain_time: time,
-        msgs_exec_params: params,
-        buffer_limits_by_partitions: limits,
-        reader_state: state,
-        all_ranges_fully_read: so_far.all_read,
+        reader_state: ExternalsReaderState {
+            ranges,
+            len: r.len,
+            last_read_to_anchor_chain_time: last,
+            ..old
+        },
+        all_ranges_fully_read: r.so_far.all_read,
+        ..reader
     }
 }
 
@@ -331,26 +257,21 @@ fn answer_of(
     reader: ExternalsReader,
     r: RangesRead,
 ) -> ReadIntoBuffers
-    ensures { result ≡ read_answered tables.now area.now t reader r }
+    ensures { read_all_answer_of reader t (Ok result) ≡ read_answered tables.now area.now t reader (ranges_told r) }
 {
     let so_far = r.so_far;
-    let popped = anchors_cache::pop_fronts(tables, area, t, so_far.pops);
-    let after = popped.state;
-    let free = so_far.free;
-    let counts = so_far.counts;
     ReadIntoBuffers {
-        number: 0,
-        free: free,
+        free: so_far.free,
         used: so_far.used,
-        counts: counts,
+        counts: so_far.counts,
         reader: reader_after(reader, r),
-        state: after,
+        state: anchors_cache::pop_fronts(tables, area, t, so_far.pops).unwrap_or(t),
     }
 }
 
-// The read of all ranges. It runs twice: the first run writes nothing and decides the number, so that a refusal in a
-// later range leaves the entries of the first unwritten. Where that one used no byte there is nothing to write, and it
-// is the answer.
+// The read of all ranges. It runs twice: the first run writes nothing and decides whether it is refused, so that a
+// refusal in a later range leaves the entries of the first unwritten. Where that one used no byte there is nothing to
+// write, and it is the answer.
 pub fn read_into_buffers(
     tables: &[u8],
     area: &[u8],
@@ -359,30 +280,20 @@ pub fn read_into_buffers(
     reader: ExternalsReader,
     mode: GetNextMessageGroupMode,
     out: &mut [u8],
-) -> ReadIntoBuffers
-    ensures { record { answer = result; out = out.new } ≡ read_all_call tables.now area.now t routes.now reader mode out.old }
+) -> Result<ReadIntoBuffers, Refusal>
+    ensures { record { answer = read_all_answer_of reader t result; out = out.new } ≡ read_all_call tables.now area.now t routes.now reader mode out.old }
 {
-    let asked = questions::asked_of_read(tables, area, t, routes, reader);
-    if asked != 0 {
-        return answered(asked, reader, t);
-    }
+    questions::check_read(tables, area, t, routes, reader)?;
     if reader.all_ranges_fully_read {
-        return answered(0, reader, t);
+        return Ok(unread(reader, t));
     }
-    let cache = t.cache;
-    let imported = ranges::last_imported(tables, cache);
+    let imported = ranges::last_imported(tables, t.cache);
     let x = fixed_at_entry(reader, mode, imported, out.len());
-    let state = reader.reader_state;
-    let ranges = state.ranges;
-    let len = state.len;
-    let checked = turns::ranges_read(tables, area, t, routes, x, ranges, len, false, &mut *out);
-    let so_far = checked.so_far;
-    if so_far.number != 0 {
-        return answered(so_far.number, reader, t);
+    let start = reader.reader_state;
+    let checked = turns::ranges_read(tables, area, t, routes, x, start, false, &mut *out)?;
+    if checked.so_far.used == 0 {
+        return Ok(answer_of(tables, area, t, reader, checked));
     }
-    if so_far.used == 0 {
-        return answer_of(tables, area, t, reader, checked);
-    }
-    let r = turns::ranges_read(tables, area, t, routes, x, ranges, len, true, &mut *out);
-    answer_of(tables, area, t, reader, r)
+    let r = turns::ranges_read(tables, area, t, routes, x, start, true, &mut *out)?;
+    Ok(answer_of(tables, area, t, reader, r))
 }

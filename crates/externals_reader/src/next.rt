@@ -5,11 +5,13 @@ ghost use Rattle.range_rules.specs.declared.ExternalsRangeReaderState.{Externals
 ghost use Rattle.range_rules.specs.Rules.{no_key};
 ghost use Rattle.reader_rules.specs.State.{no_range};
 ghost use Rattle.reader_rules.specs.Rules.{last_or, next_partition, range_from, next_range, wants_next, read_of};
+ghost use Rattle.externals_reader.specs.Ready.{so_far_told};
 
+use crate::SoFar;
 use ext_types::{ChainTime, ExternalKey, NO_KEY};
 use messages_buffer::{ExternalsPartitionRangeReaderState, NO_PARTITION};
 use range_rules::ExternalsRangeReaderState;
-use reader_rules::{ExternalsPartitionReaderState, Fixed, GetNextMessageGroupMode, SoFar};
+use reader_rules::{ExternalsPartitionReaderState, Fixed, GetNextMessageGroupMode};
 
 // A partition of a new range: an empty buffer, both offsets at the current one.
 fn next_partition(p: ExternalsPartitionReaderState) -> ExternalsPartitionRangeReaderState
@@ -28,14 +30,7 @@ fn next_partitions(
 ) -> [ExternalsPartitionRangeReaderState; 8]
     ensures { result ≡ map next_partition parts }
 {
-    let mut r = [NO_PARTITION; 8];
-    let mut i = 0;
-    while i < 8 {
-        let p = parts[i];
-        r[i] = next_partition(p);
-        i += 1;
-    }
-    r
+    parts.map(next_partition)
 }
 
 fn last_to(last: ExternalsRangeReaderState, len: usize) -> ExternalKey
@@ -56,8 +51,8 @@ fn range_from(
     ensures { result ≡ range_from seqno from time parts }
 {
     ExternalsRangeReaderState {
-        seqno: seqno,
-        from: from,
+        seqno,
+        from,
         to: from,
         current_position: from,
         chain_time: time,
@@ -69,8 +64,7 @@ fn range_from(
 pub(crate) fn no_range() -> ExternalsRangeReaderState
     ensures { result ≡ range_from 0 no_key (record { 0 = 0 }) (replicate 8 no_partition) }
 {
-    let parts = [NO_PARTITION; 8];
-    range_from(0, NO_KEY, ChainTime(0), parts)
+    range_from(0, NO_KEY, ChainTime(0), [NO_PARTITION; 8])
 }
 
 // The range behind the last one, which is not looked at where there is none.
@@ -83,9 +77,7 @@ pub(crate) fn next_range(
 ) -> ExternalsRangeReaderState
     ensures { (ranges : List ExternalsRangeReaderState) → get_or ranges (len - 1) no_range ≡ last → result ≡ next_range seqno time parts ranges len }
 {
-    let from = last_to(last, len);
-    let fresh = next_partitions(parts);
-    range_from(seqno, from, time, fresh)
+    range_from(seqno, last_to(last, len), time, next_partitions(parts))
 }
 
 // The one that a read appends.
@@ -96,9 +88,7 @@ pub(crate) fn appended_range(
 ) -> ExternalsRangeReaderState
     ensures { (ranges : List ExternalsRangeReaderState) → get_or ranges (len - 1) no_range ≡ last → result ≡ next_range x.block_seqno x.next_chain_time x.by_partitions ranges len }
 {
-    let time = x.next_chain_time;
-    let parts = x.by_partitions;
-    next_range(x.block_seqno, time, parts, last, len)
+    next_range(x.block_seqno, x.next_chain_time, x.by_partitions, last, len)
 }
 
 fn last_seqno(last: ExternalsRangeReaderState, len: usize) -> u32
@@ -112,28 +102,11 @@ fn last_seqno(last: ExternalsRangeReaderState, len: usize) -> u32
 
 // Whether a range is appended: all are fully read, and nothing forbids it.
 pub(crate) fn wants_next(x: Fixed, s: SoFar, last: ExternalsRangeReaderState, len: usize) -> bool
-    ensures { (ranges : List ExternalsRangeReaderState) → get_or ranges (len - 1) no_range ≡ last → result ≡ wants_next x (read_of s ranges len) }
+    ensures { (ranges : List ExternalsRangeReaderState) → get_or ranges (len - 1) no_range ≡ last → result ≡ wants_next x (read_of (so_far_told s) ranges len) }
 {
-    if s.number != 0 {
-        return false;
-    }
-    if !s.all_read {
-        return false;
-    }
-    let mode = x.mode;
-    match mode {
-        GetNextMessageGroupMode::Refill => {
-            return false;
-        }
-        GetNextMessageGroupMode::Continue => {}
-    }
-    let params = x.params;
-    if params.new_is_some {
-        return false;
-    }
-    let limit = crate::open_ranges_limit(params);
-    if limit <= len {
-        return false;
-    }
-    last_seqno(last, len) < x.block_seqno
+    s.all_read
+        && matches!(x.mode, GetNextMessageGroupMode::Continue)
+        && !x.params.new_is_some
+        && len < crate::open_ranges_limit(x.params)
+        && last_seqno(last, len) < x.block_seqno
 }

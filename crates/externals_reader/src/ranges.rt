@@ -7,31 +7,28 @@ ghost use Rattle.cache_rules.specs.Rules.{max_history};
 ghost use Rattle.anchors_cache.specs.Tables.{tables_bytes};
 
 use anchors_cache::AnchorsCache;
-use ext_types::{ExternalKey, NO_KEY};
+use ext_types::{ChainTime, ExternalKey, NO_KEY};
 use messages_buffer::NO_LIMIT;
-use range_rules::{ExternalsRangeReaderState, LastChainTime, ProcessedTo};
-use reader_rules::{ExternalsPartitionReaderState, ExternalsReaderState, Imported, MAX_RANGES};
+use range_rules::{ExternalsRangeReaderState, ProcessedTo};
+use reader_rules::{ExternalsPartitionReaderState, ExternalsReaderState, MAX_RANGES};
+use std::array;
 
-pub(crate) fn with_last(state: ExternalsReaderState, last: LastChainTime) -> ExternalsReaderState
+pub(crate) fn with_last(
+    state: ExternalsReaderState,
+    last: Option<ChainTime>,
+) -> ExternalsReaderState
     ensures { result ≡ with_last state last }
 {
-    let ranges = state.ranges;
-    let parts = state.by_partitions;
     ExternalsReaderState {
-        ranges: ranges,
-        len: state.len,
-        by_partitions: parts,
         last_read_to_anchor_chain_time: last,
+        ..state
     }
 }
 
 fn with_default(limit: u16, p: ExternalsPartitionReaderState) -> ExternalsPartitionReaderState
     ensures { result ≡ with_default limit p }
 {
-    if p.present {
-        return p;
-    }
-    if limit == NO_LIMIT {
+    if p.present || limit == NO_LIMIT {
         return p;
     }
     ExternalsPartitionReaderState {
@@ -47,25 +44,16 @@ fn partitions_entered(
 ) -> [ExternalsPartitionReaderState; 8]
     ensures { result ≡ partitions_entered limits parts }
 {
-    let mut r = parts;
-    let mut i = 0;
-    while i < 8 {
-        let p = parts[i];
-        let limit = limits[i];
-        r[i] = with_default(limit, p);
-        i += 1;
-    }
-    r
+    array::from_fn(|i| with_default(limits[i], parts[i]))
 }
 
 fn range_entered(range: ExternalsRangeReaderState) -> ExternalsRangeReaderState
     ensures { result ≡ range_entered range }
 {
-    let position = range.current_position;
-    let to = range.to;
-    let mut r = range;
-    r.fully_read = ext_types::key_equal(position, to);
-    r
+    ExternalsRangeReaderState {
+        fully_read: range.current_position == range.to,
+        ..range
+    }
 }
 
 fn ranges_entered(
@@ -75,14 +63,11 @@ fn ranges_entered(
     requires { len ≤ max_ranges }
     ensures { result ≡ ranges_entered len ranges }
 {
-    let mut r = ranges;
-    let mut i = 0;
-    while i < len {
-        let range = ranges[i];
-        r[i] = range_entered(range);
-        i += 1;
+    let mut entered = ranges;
+    for range in entered[..len].iter_mut() {
+        *range = range_entered(*range);
     }
-    r
+    entered
 }
 
 // What `new` makes of a state.
@@ -90,36 +75,24 @@ pub(crate) fn entered(limits: [u16; 8], state: ExternalsReaderState) -> External
     requires { state.len ≤ max_ranges }
     ensures { result ≡ state_entered limits state }
 {
-    let ranges = state.ranges;
-    let parts = state.by_partitions;
-    let last = state.last_read_to_anchor_chain_time;
     ExternalsReaderState {
-        ranges: ranges_entered(ranges, state.len),
-        len: state.len,
-        by_partitions: partitions_entered(limits, parts),
-        last_read_to_anchor_chain_time: last,
+        ranges: ranges_entered(state.ranges, state.len),
+        by_partitions: partitions_entered(limits, state.by_partitions),
+        ..state
     }
 }
 
 pub(crate) fn present_in(parts: [ExternalsPartitionReaderState; 8]) -> [bool; 8]
     ensures { result ≡ map is_present parts }
 {
-    let mut r = [false; 8];
-    let mut i = 0;
-    while i < 8 {
-        let p = parts[i];
-        r[i] = p.present;
-        i += 1;
-    }
-    r
+    parts.map(|p| p.present)
 }
 
 fn processed_of(p: ExternalsPartitionReaderState) -> ProcessedTo
     ensures { result ≡ processed_of p }
 {
-    let key = p.processed_to;
     ProcessedTo {
-        key: key,
+        key: p.processed_to,
         present: p.present,
     }
 }
@@ -128,33 +101,20 @@ fn processed_of(p: ExternalsPartitionReaderState) -> ProcessedTo
 pub(crate) fn processed_in(parts: [ExternalsPartitionReaderState; 8]) -> [ProcessedTo; 8]
     ensures { result ≡ map processed_of parts }
 {
-    let none = ProcessedTo {
-        key: NO_KEY,
-        present: false,
-    };
-    let mut r = [none; 8];
-    let mut i = 0;
-    while i < 8 {
-        let p = parts[i];
-        r[i] = processed_of(p);
-        i += 1;
-    }
-    r
+    parts.map(processed_of)
 }
 
 // The last imported entry's id and message count. Pops never remove that entry.
-pub(crate) fn last_imported(tables: &[u8], cache: AnchorsCache) -> Imported
+pub(crate) fn last_imported(tables: &[u8], cache: AnchorsCache) -> Option<ExternalKey>
     requires { (cache.history_first + cache.history_len ≤ max_history) × (tables_bytes ≤ length tables.now) }
     ensures { result ≡ imported_in tables.now cache }
 {
     if cache.history_len == 0 {
-        return Imported::Nothing;
+        return None;
     }
-    let i = cache.history_first + (cache.history_len - 1);
-    let info = anchors_cache::history_row(tables, i);
-    let key = ExternalKey {
+    let info = anchors_cache::history_row(tables, cache.history_first + cache.history_len - 1);
+    Some(ExternalKey {
         anchor_id: info.id,
         msgs_offset: info.all_exts_count as u64,
-    };
-    Imported::End(key)
+    })
 }

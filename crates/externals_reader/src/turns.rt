@@ -1,77 +1,61 @@
 // The ranges' turns in a read of all: which ranges are read, how, and what becomes of the rest.
 ghost use Rattle.std.specs.Prelude.{ℕ, ◌+◌, ◌<◌, ◌^◌, ◌≡◌, not, ◌&&◌, eqb, get_or};
-ghost use Rattle.range_reader.specs.Ready.{Wrote};
-ghost use Rattle.reader_rules.specs.Rules.{skip_offset_of, reached, before_skip_offsets, waits, is_skipped, mode_for, settled, sums, counts_added, ranges_read, time_saved, nothing_read, read_of};
+ghost use Rattle.range_reader.specs.Ready.{Tells};
+ghost use Rattle.range_reader.specs.Calls.{read_answer_of};
+ghost use Rattle.range_rules.specs.declared.ExternalsRangeReaderState.{ExternalsRangeReaderState};
+ghost use Rattle.reader_rules.specs.Rules.{skip_offset_of, reached, before_skip_offsets, waits, is_skipped, mode_for, settled, sums, counts_added, ranges_read, time_saved, nothing_read, at_entry};
 ghost use Rattle.externals_reader.specs.Calls.{told, window_read};
-ghost use Rattle.externals_reader.specs.Locals.{turn_done, turns_over};
-ghost use Rattle.externals_reader.specs.Ready.{Addable, TurnReady, RangeWrote, TurnRoom, Start, TurnWrote};
+ghost use Rattle.externals_reader.specs.Locals.{turn_done};
+ghost use Rattle.externals_reader.specs.Ready.{so_far_told, done_told, answer_told, ranges_tell, Addable, TurnReady, RangeWrote, TurnRoom, Start, TurnWrote};
 
-use crate::{TurnDone, next};
+use crate::{RangesRead, SoFar, TurnDone, next};
 use anchors_cache::AnchorsCacheTransaction;
+use ext_types::ChainTime;
 use messages_buffer::ExternalsPartitionRangeReaderState;
-use range_reader::ReadExternals;
-use range_rules::{
-    ExternalsRangeReaderState, LastChainTime, NO_COUNTS, ReadCounts, ReadNextExternalsMode,
-};
+use range_reader::{RangeSettings, ReadExternals};
+use range_rules::{ExternalsRangeReaderState, NO_COUNTS, ReadCounts, ReadNextExternalsMode};
 use reader_rules::{
-    ExternalsPartitionReaderState, Fixed, GetNextMessageGroupMode, Imported, LastFree, MAX_RANGES,
-    RangesRead, SoFar,
+    ExternalsPartitionReaderState, ExternalsReaderState, Fixed, GetNextMessageGroupMode,
 };
+use refusals::Refusal;
+use std::array;
 
 fn nothing_read() -> SoFar
-    ensures { result ≡ nothing_read }
+    ensures { so_far_told result ≡ nothing_read }
 {
-    let free = LastFree::Nothing;
-    let last = LastChainTime::Nothing;
     SoFar {
-        number: 0,
         pops: 0,
         used: 0,
         all_read: true,
         stopped: false,
-        free: free,
-        last: last,
+        free: None,
+        last: None,
         counts: NO_COUNTS,
     }
 }
 
 // The first, if it is a time.
-pub(crate) fn time_saved(last: LastChainTime, saved: LastChainTime) -> LastChainTime
+pub(crate) fn time_saved(last: Option<ChainTime>, saved: Option<ChainTime>) -> Option<ChainTime>
     ensures { result ≡ time_saved last saved }
 {
-    let LastChainTime::Time(time) = last else {
-        return saved;
-    };
-    LastChainTime::Time(time)
+    last.or(saved)
 }
 
 fn summed(a: [u32; 8], b: [u32; 8]) -> [u32; 8]
     requires { (i : ℕ) → get_or a i 0 + get_or b i 0 < 2 ^ 32 }
     ensures { result ≡ sums a b }
 {
-    let mut r = a;
-    let mut i = 0;
-    while i < 8 {
-        r[i] = a[i] + b[i];
-        i += 1;
-    }
-    r
+    array::from_fn(|i| a[i] + b[i])
 }
 
 fn added(a: ReadCounts, b: ReadCounts) -> ReadCounts
     requires { Addable a b }
     ensures { result ≡ counts_added a b }
 {
-    let read = a.read;
-    let expired = a.expired;
-    let buffered = a.buffered;
-    let more_read = b.read;
-    let more_expired = b.expired;
-    let more_buffered = b.buffered;
     ReadCounts {
-        read: summed(read, more_read),
-        expired: summed(expired, more_expired),
-        buffered: summed(buffered, more_buffered),
+        read: summed(a.read, b.read),
+        expired: summed(a.expired, b.expired),
+        buffered: summed(a.buffered, b.buffered),
     }
 }
 
@@ -79,10 +63,7 @@ fn added(a: ReadCounts, b: ReadCounts) -> ReadCounts
 fn skip_offset_of(p: ExternalsPartitionRangeReaderState) -> u32
     ensures { result ≡ skip_offset_of p }
 {
-    if p.present {
-        return p.skip_offset;
-    }
-    0
+    if p.present { p.skip_offset } else { 0 }
 }
 
 // In every partition of the reader the current offset is below the range's skip offset.
@@ -92,25 +73,13 @@ fn before_skip_offsets(
 ) -> bool
     ensures { result ≡ before_skip_offsets parts of_range }
 {
-    let mut i = 0;
-    while i < 8 {
-        let p = parts[i];
-        let q = of_range[i];
-        if reached(p, q) {
-            return false;
-        }
-        i += 1;
-    }
-    true
+    !parts.iter().zip(&of_range).any(|(p, q)| reached(*p, *q))
 }
 
 fn reached(p: ExternalsPartitionReaderState, q: ExternalsPartitionRangeReaderState) -> bool
     ensures { result ≡ reached p q }
 {
-    if !p.present {
-        return false;
-    }
-    skip_offset_of(q) <= p.curr_processed_offset
+    p.present && skip_offset_of(q) <= p.curr_processed_offset
 }
 
 // In `Refill` the block's own range waits.
@@ -124,47 +93,42 @@ fn waits(mode: GetNextMessageGroupMode, own: bool) -> bool
 }
 
 // A range that is not fully read and yet not read now.
+#[tactic(auto, using(std::proofs::lemmas::Bool::Decides::nat_tests), unfolding(reader_rules::specs::Rules::is_skipped))]
 fn is_skipped(x: Fixed, range: ExternalsRangeReaderState) -> bool
     ensures { result ≡ is_skipped x range }
 {
-    let mode = x.mode;
-    let own = range.seqno == x.block_seqno;
-    if waits(mode, own) {
-        return true;
-    }
-    let parts = x.by_partitions;
-    let of_range = range.by_partitions;
-    before_skip_offsets(parts, of_range)
+    waits(x.mode, range.seqno == x.block_seqno)
+        || before_skip_offsets(x.by_partitions, range.by_partitions)
 }
 
 // The block's own range is read to the end, others to where they were read before.
+#[tactic(auto, using(std::proofs::lemmas::Bool::Decides::nat_tests), unfolding(reader_rules::specs::Rules::mode_for))]
 fn mode_for(x: Fixed, seqno: u32) -> ReadNextExternalsMode
     ensures { result ≡ mode_for x seqno }
 {
     if seqno == x.block_seqno {
-        return ReadNextExternalsMode::ToTheEnd;
+        ReadNextExternalsMode::ToTheEnd
+    } else {
+        ReadNextExternalsMode::ToPreviuosReadTo
     }
-    ReadNextExternalsMode::ToPreviuosReadTo
 }
 
 // The block's own range, fully read: position and "to" become the end of the last imported anchor.
+#[tactic(auto, using(std::proofs::lemmas::Bool::Decides::nat_tests), unfolding(reader_rules::specs::Rules::settled))]
 fn settled(x: Fixed, range: ExternalsRangeReaderState) -> ExternalsRangeReaderState
     ensures { result ≡ settled x range }
 {
-    if !range.fully_read {
+    if !range.fully_read || range.seqno != x.block_seqno {
         return range;
     }
-    if range.seqno != x.block_seqno {
-        return range;
-    }
-    let imported = x.imported;
-    let Imported::End(key) = imported else {
+    let Some(key) = x.imported else {
         return range;
     };
-    let mut r = range;
-    r.current_position = key;
-    r.to = key;
-    r
+    ExternalsRangeReaderState {
+        current_position: key,
+        to: key,
+        ..range
+    }
 }
 
 // One range's read, at the first free place of the output.
@@ -177,75 +141,56 @@ fn range_turn(
     range: ExternalsRangeReaderState,
     write: bool,
     out: &mut [u8],
-) -> ReadExternals
-    ensures { RangeWrote write tables.now area.now t routes.now x range out.old out.new result }
+) -> Result<ReadExternals, Refusal>
+    ensures { RangeWrote write tables.now area.now t routes.now x range out.old out.new (read_answer_of range t result) }
 {
-    let shard = x.shard;
     let limits = x.limits;
     let processed = x.processed;
-    let params = x.params;
-    let timeout = params.externals_expire_timeout;
-    let mode = mode_for(x, range.seqno);
+    let settings = RangeSettings {
+        shard: x.shard,
+        limits,
+        processed,
+        timeout: x.params.externals_expire_timeout,
+        mode: mode_for(x, range.seqno),
+    };
     if write {
         return range_reader::read_externals_into_buffers(
-            tables, area, t, shard, routes, limits, processed, timeout, mode, range, &mut *out,
+            tables, area, t, routes, settings, range, out,
         );
     }
-    range_reader::check_read_externals(
-        tables, area, t, shard, routes, limits, processed, timeout, mode, range, &mut *out,
-    )
+    range_reader::check_read_externals(tables, area, t, routes, settings, range, out)
 }
 
-// What a range's read makes of what the turns before came to.
-fn after_turn(x: Fixed, s: SoFar, range: ExternalsRangeReaderState, a: ReadExternals) -> TurnDone
-    requires { TurnReady s a }
-    ensures { result ≡ turn_done x s range (told a) }
+// What a range's read makes of what the turns before came to. How the range was before is no part of that.
+fn after_turn(x: Fixed, s: SoFar, read: ReadExternals) -> TurnDone
+    requires { TurnReady (so_far_told s) (answer_told read) }
+    ensures { (range : ExternalsRangeReaderState) → done_told result ≡ turn_done x (so_far_told s) range (told (answer_told read)) }
 {
-    if a.number != 0 {
-        let mut q = s;
-        q.number = a.number;
-        return TurnDone {
-            so_far: q,
-            range: range,
-        };
-    }
-    let read = a.range;
-    let free = LastFree::Places(a.free);
-    let last = a.last_chain_time;
-    let counts = added(s.counts, a.counts);
-    let q = SoFar {
-        number: 0,
-        pops: s.pops + a.pops,
-        used: s.used + a.used,
-        all_read: all_read(s.all_read, read.fully_read),
-        stopped: stops(a.free, read.fully_read),
-        free: free,
-        last: last,
-        counts: counts,
-    };
     TurnDone {
-        so_far: q,
-        range: settled(x, read),
+        so_far: SoFar {
+            pops: s.pops + read.pops,
+            used: s.used + read.used,
+            all_read: all_read(s.all_read, read.range.fully_read),
+            stopped: stops(read.free, read.range.fully_read),
+            free: Some(read.free),
+            last: read.last_chain_time,
+            counts: added(s.counts, read.counts),
+        },
+        range: settled(x, read.range),
     }
 }
 
 fn all_read(so_far: bool, now: bool) -> bool
     ensures { result ≡ (so_far && «now») }
 {
-    if !now {
-        return false;
-    }
-    so_far
+    so_far && now
 }
 
 // A full buffer in a range not fully read ends the call.
 fn stops(free: u16, fully_read: bool) -> bool
     ensures { result ≡ (eqb free 0 && not fully_read) }
 {
-    if fully_read {
-        return false;
-    }
-    free == 0
+    free == 0 && !fully_read
 }
 
 // The turn of a range, wherever it stands among the others.
@@ -259,93 +204,76 @@ fn turn(
     range: ExternalsRangeReaderState,
     write: bool,
     out: &mut [u8],
-) -> TurnDone
-    requires { TurnRoom x s out.old }
-    ensures { TurnWrote write (window_read tables.now area.now t routes.now x) x s range out.old out.new result }
+) -> Result<TurnDone, Refusal>
+    requires { TurnRoom x (so_far_told s) out.old }
+    ensures { TurnWrote write (window_read tables.now area.now t routes.now x) x (so_far_told s) range out.old out.new result }
 {
     if range.fully_read {
-        return TurnDone {
-            so_far: s,
-            range: range,
-        };
+        return Ok(TurnDone { so_far: s, range });
     }
     if is_skipped(x, range) {
-        let mut q = s;
-        q.all_read = false;
-        return TurnDone {
-            so_far: q,
-            range: range,
-        };
+        return Ok(TurnDone {
+            so_far: SoFar {
+                all_read: false,
+                ..s
+            },
+            range,
+        });
     }
-    let used = s.used;
-    let before = anchors_cache::pop_fronts(tables, area, t, s.pops);
-    let now = before.state;
-    let a = range_turn(tables, area, now, routes, x, range, write, &mut out[used..]);
-    after_turn(x, s, range, a)
+    let now = anchors_cache::pop_fronts(tables, area, t, s.pops).unwrap_or(t);
+    let read = range_turn(
+        tables,
+        area,
+        now,
+        routes,
+        x,
+        range,
+        write,
+        &mut out[s.used..],
+    )?;
+    Ok(after_turn(x, s, read))
 }
 
-// No range is left, or the turns are over.
-fn turns_over(s: SoFar, left: usize) -> bool
-    ensures { result ≡ turns_over s left }
-{
-    if left == 0 {
-        return true;
-    }
-    if s.number != 0 {
-        return true;
-    }
-    s.stopped
-}
-
-// Every range in turn; where all are fully read, the next one, if one is wanted. The ranges are a local that is changed
-// in place.
+// Every range in turn, until one is refused or a full buffer stops the read; where all are fully read, the next one, if
+// one is wanted. The ranges are a local that is changed in place.
 pub(crate) fn ranges_read(
     tables: &[u8],
     area: &[u8],
     t: AnchorsCacheTransaction,
     routes: &[u8],
     x: Fixed,
-    start: [ExternalsRangeReaderState; MAX_RANGES],
-    len: usize,
+    start: ExternalsReaderState,
     write: bool,
     out: &mut [u8],
-) -> RangesRead
-    requires { Start x (read_of nothing_read start len) out.old }
-    ensures { Wrote write 0 out.old out.new result (ranges_read (window_read tables.now area.now t routes.now x) x (read_of nothing_read start len)) }
+) -> Result<RangesRead, Refusal>
+    requires { Start x (at_entry start) out.old }
+    ensures { Tells write 0 out.old out.new (ranges_tell result) (ranges_read (window_read tables.now area.now t routes.now x) x (at_entry start)) }
 {
-    let mut ranges = start;
+    let mut ranges = start.ranges;
+    let len = start.len;
     let mut s = nothing_read();
-    let mut at = 0;
-    let mut left = len;
-    loop {
-        if turns_over(s, left) {
+    for at in 0..len {
+        if s.stopped {
             break;
         }
-        let range = ranges[at];
-        let done = turn(tables, area, t, routes, x, s, range, write, &mut *out);
-        let next = done.range;
-        ranges[at] = next;
+        let done = turn(tables, area, t, routes, x, s, ranges[at], write, out)?;
+        ranges[at] = done.range;
         s = done.so_far;
-        at += 1;
-        left -= 1;
     }
-    let place = rows::last_place(len);
-    let last = ranges[place];
+    let last = ranges[rows::last_place(len)];
     if !next::wants_next(x, s, last, len) {
-        return RangesRead {
+        return Ok(RangesRead {
             so_far: s,
-            ranges: ranges,
-            len: len,
-        };
+            ranges,
+            len,
+        });
     }
     let fresh = next::appended_range(x, last, len);
-    let more = turn(tables, area, t, routes, x, s, fresh, write, &mut *out);
-    let read = more.range;
-    ranges[len] = read;
-    let so_far = more.so_far;
-    RangesRead {
-        so_far: so_far,
-        ranges: ranges,
+    let more = turn(tables, area, t, routes, x, s, fresh, write, out)?;
+    ranges[len] = more.range;
+    Ok(RangesRead {
+        so_far: more.so_far,
+        ranges,
         len: len + 1,
-    }
+    })
 }

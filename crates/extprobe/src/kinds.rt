@@ -1,104 +1,124 @@
 // The records beyond those of extread, and question 17 of them.
+ghost use Rattle.std.specs.Prelude.{◌≡◌, IfErr};
+ghost use Rattle.refusals.specs.Refusals.{number_of};
 
-pub const RANGE: u16 = 257;
+use cache_rules::AREA_BYTES;
+use refusals::Refusal;
 
-pub const PARTITION: u16 = 258;
+// What a record is, by the number that it begins with.
+#[derive(Clone, Copy, Debug, PartialEq, Eq)]
+pub enum Kind {
+    Range = 257,
+    Partition = 258,
+    Marks = 259,
+    Places = 260,
+    Limits = 261,
+    History = 262,
+    Cached = 263,
+    Area = 264,
+    Trim = 272,
+    One = 273,
+    Took = 274,
+    Function = 275,
+    InfoAt = 276,
+    InRange = 277,
+    New = 278,
+    Info = 279,
+}
 
-pub const MARKS: u16 = 259;
+impl TryFrom<u16> for Kind {
+    type Error = Refusal;
 
-pub const PLACES: u16 = 260;
+    ghost try_from_gives = { λ n r. IfErr r (λ e. number_of e ≡ 17) };
 
-pub const LIMITS: u16 = 261;
-
-pub const HISTORY: u16 = 262;
-
-pub const CACHED: u16 = 263;
-
-pub const AREA: u16 = 264;
-
-pub const TRIM: u16 = 272;
-
-pub const ONE: u16 = 273;
-
-pub const TOOK: u16 = 274;
-
-pub const FUNCTION: u16 = 275;
-
-pub const INFO_AT: u16 = 276;
-
-pub const IN_RANGE: u16 = 277;
-
-pub const NEW: u16 = 278;
-
-pub const INFO: u16 = 279;
-
-// How long the payload of a kind is; a cached anchor's has 33 bytes for each message.
-// No payload is as long as that of an unknown kind.
-fn length_of(kind: u16, p: &[u8]) -> usize {
-    match kind {
-        IN_RANGE => 12,
-        CACHED => 50 + 33 * rows::u16_at(p, 48) as usize,
-        RANGE => 153,
-        PARTITION => 18,
-        MARKS => 10,
-        PLACES | AREA => 4,
-        LIMITS => 16,
-        HISTORY | INFO => 52,
-        TRIM | INFO_AT => 8,
-        ONE => 5,
-        TOOK => 9,
-        FUNCTION => 3,
-        NEW => 0,
-        _ => usize::MAX,
+    fn try_from(number: u16) -> Result<Kind, Refusal> {
+        match number {
+            257 => Ok(Kind::Range),
+            258 => Ok(Kind::Partition),
+            259 => Ok(Kind::Marks),
+            260 => Ok(Kind::Places),
+            261 => Ok(Kind::Limits),
+            262 => Ok(Kind::History),
+            263 => Ok(Kind::Cached),
+            264 => Ok(Kind::Area),
+            272 => Ok(Kind::Trim),
+            273 => Ok(Kind::One),
+            274 => Ok(Kind::Took),
+            275 => Ok(Kind::Function),
+            276 => Ok(Kind::InfoAt),
+            277 => Ok(Kind::InRange),
+            278 => Ok(Kind::New),
+            279 => Ok(Kind::Info),
+            _ => Err(Refusal::Malformed),
+        }
     }
 }
 
-// Two bytes, each from 0 on.
-fn both_within(p: &[u8], at: usize, high: u8, then: usize, high_then: u8) -> bool {
-    if !records::is_byte_within(p, at, 0, high) {
-        return false;
-    }
-    records::is_byte_within(p, then, 0, high_then)
+fn is_flag(p: &[u8], at: usize) -> bool {
+    records::is_byte_within(p, at, 0, 1)
+}
+
+fn is_partition(p: &[u8], at: usize) -> bool {
+    records::is_byte_within(p, at, 0, 7)
 }
 
 // The marks of a range and of its eight partitions are 0 or 1.
 fn has_marks(p: &[u8]) -> bool {
-    let mut at = 49;
-    while at < 153 {
-        if !records::is_byte_within(p, at, 0, 1) {
-            return false;
-        }
-        at += 13;
-    }
-    records::is_byte_within(p, 48, 0, 1)
+    let partitions = p.get(49..).unwrap_or_default();
+    is_flag(p, 48) && partitions.chunks_exact(13).all(|row| is_flag(row, 0))
 }
 
-// Flags are 0 or 1, partitions at most 7; functions are the known ones, and no more of the area is lent than there is.
-fn has_fields(kind: u16, p: &[u8]) -> bool {
-    match kind {
-        RANGE => has_marks(p),
-        PARTITION => both_within(p, 0, 7, 1, 1),
-        MARKS => both_within(p, 0, 1, 1, 1),
-        AREA => rows::u32_at(p, 0) <= 33792,
-        ONE => records::is_byte_within(p, 4, 0, 1),
-        TOOK => records::is_byte_within(p, 4, 0, 7),
-        FUNCTION => {
-            if !records::is_byte_within(p, 0, 1, 22) {
-                return false;
+impl Kind {
+    // How long its payload is; a cached anchor's has 33 bytes for each message.
+    fn length(self, p: &[u8]) -> usize {
+        match self {
+            Kind::Range => 153,
+            Kind::Partition => 18,
+            Kind::Marks => 10,
+            Kind::Places | Kind::Area => 4,
+            Kind::Limits => 16,
+            Kind::History | Kind::Info => 52,
+            Kind::Cached => 50 + 33 * usize::from(rows::num_at::<u16>(p, 48)),
+            Kind::Trim | Kind::InfoAt => 8,
+            Kind::One => 5,
+            Kind::Took => 9,
+            Kind::Function => 3,
+            Kind::InRange => 12,
+            Kind::New => 0,
+        }
+    }
+
+    // Flags are 0 or 1, partitions at most 7; functions are the known ones, and no more of the area is lent than there
+    // is.
+    fn has_fields(self, p: &[u8]) -> bool {
+        match self {
+            Kind::Range => has_marks(p),
+            Kind::Partition => is_partition(p, 0) && is_flag(p, 1),
+            Kind::Marks => is_flag(p, 0) && is_flag(p, 1),
+            Kind::Area => rows::num_at::<u32>(p, 0) as usize <= AREA_BYTES,
+            Kind::One => is_flag(p, 4),
+            Kind::Took => is_partition(p, 4),
+            Kind::Function => {
+                records::is_byte_within(p, 0, 1, 22) && is_partition(p, 1) && is_flag(p, 2)
             }
-            both_within(p, 1, 7, 2, 1)
+            Kind::Places
+            | Kind::Limits
+            | Kind::History
+            | Kind::Cached
+            | Kind::Trim
+            | Kind::InfoAt
+            | Kind::InRange
+            | Kind::New
+            | Kind::Info => true,
         }
-        _ => true,
     }
 }
 
-// Of a record with this number: it comes behind the settings.
-pub fn is_well_made(number: u64, kind: u16, p: &[u8]) -> bool {
-    if number < 3 {
-        return false;
+// The kind of a record with this number, if it is well made: it comes behind the settings.
+pub fn check(number: u64, kind: u16, p: &[u8]) -> Result<Kind, Refusal> {
+    let kind = Kind::try_from(kind)?;
+    if number < 3 || p.len() != kind.length(p) || !kind.has_fields(p) {
+        return Err(Refusal::Malformed);
     }
-    if p.len() != length_of(kind, p) {
-        return false;
-    }
-    has_fields(kind, p)
+    Ok(kind)
 }

@@ -3,184 +3,105 @@
 
 mod kinds;
 mod run;
-mod state;
+mod store;
 
-use std::{env, io};
-use streams::Input;
+use run::Run;
+use std::env;
+use std::io::{self, ErrorKind};
+use streams::Cut;
 
-// The next session of a list: how many bytes it has, and whether it is one of extread's; or the list is over; or it
-// goes on and has no session that can be run.
-#[derive(Clone, Copy)]
-enum Framed {
-    Bytes(usize, bool),
-    End,
-    Cut,
+// The most of a session.
+const SESSION_BYTES: usize = 131_072;
+
+// A session of a list: how many bytes it has, and whether it is one of extread's.
+#[derive(Clone, Copy, Debug)]
+struct Framed {
+    len: usize,
+    plain: bool,
 }
 
-fn read_front(rt: &HostRuntime, bytes: &mut [u8], n: usize) -> bool {
-    if n <= bytes.len() {
-        let read = streams::fill(&mut rt.stdin(), &mut bytes[0..n]);
-        return read.n == n;
+// The next session of a list: its length, 4 bytes, then 1 for one of extread's or 0, then so many bytes. None where the
+// list is over; an error where it goes on and has no session that can be run.
+fn read_session(rt: &HostRuntime, bytes: &mut [u8]) -> io::Result<Option<Framed>> {
+    let mut head = [0; 5];
+    match streams::fill(&mut rt.stdin(), &mut head) {
+        Ok(5) => {}
+        Ok(0) => return Ok(None),
+        _ => return Err(ErrorKind::UnexpectedEof.into()),
     }
-    false
-}
-
-// Its length, 4 bytes, then 1 for one of extread's or 0, then so many bytes.
-fn read_session(rt: &HostRuntime, bytes: &mut [u8; 131072]) -> Framed {
-    let mut head = [0u8; 5];
-    let read = streams::fill(&mut rt.stdin(), &mut head);
-    if read.n < 5 {
-        if read.n == 0 {
-            if !read.failed {
-                return Framed::End;
-            }
-        }
-        return Framed::Cut;
+    let len = rows::num_at::<u32>(&head, 0) as usize;
+    let plain = head[4] == 1;
+    let Some(session) = bytes.get_mut(..len) else {
+        return Err(ErrorKind::InvalidInput.into());
+    };
+    match streams::fill(&mut rt.stdin(), session) {
+        Ok(n) if n == len => Ok(Some(Framed { len, plain })),
+        _ => Err(ErrorKind::UnexpectedEof.into()),
     }
-    let n = rows::u32_at(&head, 0) as usize;
-    if read_front(rt, bytes, n) {
-        return Framed::Bytes(n, head[4] == 1);
-    }
-    Framed::Cut
 }
 
 // A line on the standard error.
 fn complain(rt: &HostRuntime, line: &[u8]) {
-    streams::write_front(&mut rt.stderr(), line, line.len());
+    let _ = streams::write_all(&mut rt.stderr(), line);
 }
 
-fn print_count(rt: &HostRuntime, name: &[u8], n: u64) -> bool {
-    let mut line = [0u8; 64];
+fn print_count(rt: &HostRuntime, name: &[u8], n: u64) -> io::Result<()> {
+    let mut line = [0; 64];
     let at = text::put_line(&mut line, 0, name, &[n]);
     streams::write_front(&mut rt.stdout(), &line, at)
 }
 
-// Whether the session of this number was run and there may be more; behind the last one stands their number.
-fn replay_one(
-    rt: &HostRuntime,
-    bytes: &mut [u8; 131072],
-    tables: &mut [u8; 14912],
-    area: &mut [u8; 33792],
-    routes: &mut [u8; 8704],
-    text: &mut [u8; 131072],
-    k: u64,
-) -> bool {
-    let framed = read_session(rt, bytes);
-    match framed {
-        Framed::Bytes(n, plain) => {
-            if !print_count(rt, b"session", k) {
-                return false;
+// Sessions one after the other, each under a line `session` with its number; behind the last one stands their number.
+fn replay(rt: &HostRuntime, bytes: &mut [u8; SESSION_BYTES], run: &mut Run) -> io::Result<()> {
+    for k in 0..u64::MAX {
+        match read_session(rt, bytes) {
+            Ok(Some(Framed { len, plain })) => {
+                print_count(rt, b"session", k)?;
+                run.begin(plain);
+                let session = bytes.get(..len).unwrap_or_default();
+                run.records(&mut rt.stdout(), session, false)?;
             }
-            run::session(
-                rt,
-                bytes,
-                n,
-                tables,
-                area,
-                routes,
-                text,
-                state::new(plain, false),
-            )
-        }
-        Framed::End => {
-            print_count(rt, b"sessions", k);
-            false
-        }
-        Framed::Cut => {
-            complain(
-                rt,
-                b"extprobe: the list has a session that is cut short or too long\n",
-            );
-            false
+            Ok(None) => return print_count(rt, b"sessions", k),
+            Err(_) => {
+                complain(
+                    rt,
+                    b"extprobe: the list has a session that is cut short or too long\n",
+                );
+                return Ok(());
+            }
         }
     }
-}
-
-// Sessions one after the other, each under a line `session` with its number.
-fn replay(
-    rt: &HostRuntime,
-    bytes: &mut [u8; 131072],
-    tables: &mut [u8; 14912],
-    area: &mut [u8; 33792],
-    routes: &mut [u8; 8704],
-    text: &mut [u8; 131072],
-) {
-    let mut k: u64 = 0;
-    while k < u64::MAX {
-        if !replay_one(rt, bytes, tables, area, routes, text, k) {
-            return;
-        }
-        k += 1;
-    }
-}
-
-// What stands behind a session of n bytes.
-fn read_behind(rt: &HostRuntime, n: usize) -> Input {
-    let mut more = [0u8; 1];
-    if n < 131072 {
-        return Input::End;
-    }
-    streams::read(&mut rt.stdin(), &mut more)
+    Ok(())
 }
 
 // One session on standard input. A longer one than there is room for is not run.
-fn single(
-    rt: &HostRuntime,
-    bytes: &mut [u8; 131072],
-    tables: &mut [u8; 14912],
-    area: &mut [u8; 33792],
-    routes: &mut [u8; 8704],
-    text: &mut [u8; 131072],
-) {
-    let read = streams::fill(&mut rt.stdin(), bytes);
-    let n = read.n;
-    let mut cut = read.failed;
-    let behind = read_behind(rt, n);
-    match behind {
-        Input::Bytes(_) => {
-            complain(rt, b"extprobe: a session has at most 131,072 bytes\n");
-            return;
+fn single(rt: &HostRuntime, bytes: &mut [u8; SESSION_BYTES], run: &mut Run) -> io::Result<()> {
+    let (n, mut cut) = match streams::fill(&mut rt.stdin(), bytes) {
+        Ok(n) => (n, false),
+        Err(Cut { n, .. }) => (n, true),
+    };
+    if n == bytes.len() {
+        match streams::read(&mut rt.stdin(), &mut [0]) {
+            Ok(Some(_)) => {
+                complain(rt, b"extprobe: a session has at most 131,072 bytes\n");
+                return Ok(());
+            }
+            Ok(None) => {}
+            Err(_) => cut = true,
         }
-        Input::End => {}
-        Input::Failed => cut = true,
     }
-    run::session(
-        rt,
-        bytes,
-        n,
-        tables,
-        area,
-        routes,
-        text,
-        state::new(false, cut),
-    );
+    let session = bytes.get(..n).unwrap_or_default();
+    run.records(&mut rt.stdout(), session, cut)
 }
 
-// One session; with an argument, a list of them.
+// One session; with an argument, a list of them. Where a write fails it ends in silence.
 fn main(rt: HostRuntime) -> io::Result<()> {
-    let mut bytes = [0u8; 131072];
-    let mut text = [0u8; 131072];
-    let mut tables = [0u8; 14912];
-    let mut area = [0u8; 33792];
-    let mut routes = [0u8; 8704];
-    if 1 < env::args(&rt)?.count() {
-        replay(
-            &rt,
-            &mut bytes,
-            &mut tables,
-            &mut area,
-            &mut routes,
-            &mut text,
-        );
-        return Ok(());
-    }
-    single(
-        &rt,
-        &mut bytes,
-        &mut tables,
-        &mut area,
-        &mut routes,
-        &mut text,
-    );
+    let mut bytes = [0; SESSION_BYTES];
+    let mut run = Run::new();
+    let _ = if 1 < env::args(&rt)?.count() {
+        replay(&rt, &mut bytes, &mut run)
+    } else {
+        single(&rt, &mut bytes, &mut run)
+    };
     Ok(())
 }

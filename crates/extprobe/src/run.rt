@@ -1,451 +1,350 @@
 // A session: its records one after the other, until it ends or one is refused.
 // Those of extread go to `session::step`; after each the state follows.
-use crate::state::Run;
-use crate::{kinds, state};
-use anchors_cache::Done;
+use crate::kinds::{self, Kind};
+use crate::store::Store;
+use anchors_cache::AnchorsCacheTransaction;
 use ext_types::ChainTime;
-use externals_reader::ReaderDone;
-use probe_reader::read::Answered;
+use probe_reader::read::{Answered, MAX_PLACES};
 use probe_reader::{functions, given, read};
-use reader_rules::ExternalsReader;
-use records::Next;
-use session::Stepped;
+use range_rules::ENTRY_LEN;
+use reader_rules::{ExternalsReader, GetNextMessageGroupMode};
+use refusals::Refusal;
 use session_rules::Session;
+use session_state::Do;
+use std::io::{self, Write};
 
-// The record is refused, and the session ends.
-fn bad(text: &mut [u8; 131072], run: Run, number: u8) -> Run {
-    state::with_session(run, session_state::bad(text, run.session, number))
+pub const TEXT_BYTES: usize = 131_072;
+
+// A session on its way, and its text that is not written yet; `plain`: only extread's records, and its lines.
+#[derive(Drop)]
+pub struct Run {
+    text: [u8; TEXT_BYTES],
+    store: Store,
+    session: Session,
+    reader: ExternalsReader,
+    plain: bool,
 }
 
-// After a call that prints nothing.
-fn taken(text: &mut [u8; 131072], run: Run, done: Done) -> Run {
-    let cache = done.state;
-    if done.number != 0 {
-        return bad(text, run, done.number);
+// The mode of a read that is taken; none for any other record.
+fn read_mode(session: Session, record: &[u8]) -> Option<GetNextMessageGroupMode> {
+    let is_do = rows::num_at::<u16>(record, 0) == u16::from(records::Kind::Do);
+    if !is_do || !session_state::is_taken(session, record) {
+        return None;
     }
-    state::with_cache(run, cache)
-}
-
-// After a reader's call that prints nothing.
-fn set(text: &mut [u8; 131072], run: Run, done: ReaderDone) -> Run {
-    let reader = done.reader;
-    if done.number != 0 {
-        return bad(text, run, done.number);
+    match Do::from(rows::byte_at(record, 2)) {
+        Do::ReadContinue => Some(GetNextMessageGroupMode::Continue),
+        Do::ReadRefill => Some(GetNextMessageGroupMode::Refill),
+        _ => None,
     }
-    state::with_reader(run, reader)
-}
-
-// After a reader's call whose number is told; a refused one's reader is taken too: it is as at entry.
-fn told(text: &mut [u8; 131072], run: Run, name: &[u8], done: ReaderDone) -> Run {
-    let session = run.session;
-    let reader = done.reader;
-    let at = text::put_call(text, session.at, name, done.number);
-    state::with_reader(state::with_at(run, at), reader)
-}
-
-// A trim on the part of the area that is lent.
-fn trim(tables: &[u8], area: &[u8], text: &mut [u8; 131072], run: Run, ct: u64) -> Run {
-    let session = run.session;
-    let n = run.area;
-    if area.len() < n {
-        return run;
-    }
-    let time = ChainTime(ct);
-    let done = anchors_cache::remove_last_imported_above(
-        tables,
-        &area[0..n],
-        session.transaction,
-        time,
-    );
-    let at = text::put_call(text, session.at, b"trim", done.number);
-    state::with_at(state::with_cache(run, done.state), at)
-}
-
-// An entry to the history alone, on the part of the area that is lent.
-fn info(tables: &mut [u8; 14912], area: &[u8], text: &mut [u8; 131072], run: Run, p: &[u8]) -> Run {
-    let session = run.session;
-    let n = run.area;
-    if area.len() < n {
-        return run;
-    }
-    let done = probe_cache::given::add_info(tables, &area[0..n], session.transaction, p);
-    let at = text::put_call(text, session.at, b"info", done.number);
-    state::with_at(state::with_cache(run, done.state), at)
-}
-
-// The host took: seqno 4, partition 1, number 4.
-fn took(text: &mut [u8; 131072], run: Run, p: &[u8]) -> Run {
-    let seqno = rows::u32_at(p, 0);
-    let n = rows::u32_at(p, 5);
-    let done = reader_offsets::messages_taken(run.reader, seqno, rows::byte_at(p, 4), n);
-    told(text, run, b"took", done)
 }
 
 // `new` over what the reader holds.
-fn renewed(reader: ExternalsReader) -> ReaderDone {
-    let shard = reader.for_shard_id;
-    let time = reader.next_chain_time;
-    let params = reader.msgs_exec_params;
-    let limits = reader.buffer_limits_by_partitions;
-    let state = reader.reader_state;
-    externals_reader::new(shard, reader.block_seqno, time, params, limits, state)
-}
-
-// The records that put the reader's partitions and marks, and what is lent.
-fn put(run: Run, kind: u16, p: &[u8]) -> Run {
-    let mut next = run;
-    match kind {
-        kinds::PARTITION => state::with_reader(run, given::with_partition(run.reader, p)),
-        kinds::MARKS => state::with_reader(run, given::with_marks(run.reader, p)),
-        kinds::PLACES => {
-            next.places = rows::u32_at(p, 0) as usize;
-            next
-        }
-        _ => {
-            next.area = rows::u32_at(p, 0) as usize;
-            next
-        }
-    }
-}
-
-// The records that reach neither tables nor message area.
-fn reader_record(text: &mut [u8; 131072], run: Run, kind: u16, p: &[u8]) -> Run {
-    match kind {
-        kinds::RANGE => set(text, run, given::put_range(run.reader, p)),
-        kinds::LIMITS => {
-            let limits = records::limits_of(p);
-            let done = externals_reader::set_buffer_limits_by_partition(run.reader, limits);
-            set(text, run, done)
-        }
-        kinds::TOOK => took(text, run, p),
-        kinds::NEW => told(text, run, b"new", renewed(run.reader)),
-        _ => put(run, kind, p),
-    }
-}
-
-// After a read.
-fn after_read(run: Run, r: Answered) -> Run {
-    let reader = r.reader;
-    let next = state::with_cache(state::with_at(run, r.at), r.cache);
-    state::with_reader(next, reader)
-}
-
-fn read_one(
-    tables: &[u8],
-    area: &[u8],
-    routes: &[u8],
-    text: &mut [u8; 131072],
-    run: Run,
-    p: &[u8],
-) -> Run {
-    let session = run.session;
-    let lent = state::lent(run);
-    let t = session.transaction;
-    after_read(
-        run,
-        read::one(
-            text, session.at, tables, area, routes, lent, t, run.reader, p,
-        ),
+fn renewed(reader: ExternalsReader) -> Result<ExternalsReader, Refusal> {
+    externals_reader::new(
+        reader.for_shard_id,
+        reader.block_seqno,
+        reader.next_chain_time,
+        reader.msgs_exec_params,
+        reader.buffer_limits_by_partitions,
+        reader.reader_state,
     )
 }
 
-fn read_all(
-    tables: &[u8],
-    area: &[u8],
-    routes: &[u8],
-    text: &mut [u8; 131072],
-    run: Run,
-    mode: u8,
-) -> Run {
-    let session = run.session;
-    let lent = state::lent(run);
-    let t = session.transaction;
-    after_read(
-        run,
-        read::all(
-            text, session.at, tables, area, routes, lent, t, run.reader, mode,
-        ),
-    )
+// The next record, behind its length of 4 bytes, and what follows it; none where the input ends, or ends inside one.
+fn split_record(bytes: &[u8]) -> Option<(&[u8], &[u8])> {
+    let (length, rest) = bytes.split_first_chunk()?;
+    rest.split_at_checked(u32::from_le_bytes(*length) as usize)
 }
 
-fn function(tables: &[u8], text: &mut [u8; 131072], run: Run, p: &[u8]) -> Run {
-    let session = run.session;
-    let called = functions::function(text, session.at, tables, session.transaction, run.reader, p);
-    let reader = called.reader;
-    state::with_reader(state::with_at(run, called.at), reader)
-}
+// What the records do.
+impl Run {
+    // The record is refused, and the session ends.
+    fn bad(&mut self, refusal: Refusal) {
+        self.session = session_state::bad(&mut self.text, self.session, refusal);
+    }
 
-// The records that call or ask.
-fn called(
-    tables: &[u8],
-    area: &[u8],
-    routes: &[u8],
-    text: &mut [u8; 131072],
-    run: Run,
-    kind: u16,
-    p: &[u8],
-) -> Run {
-    let session = run.session;
-    let t = session.transaction;
-    match kind {
-        kinds::TRIM => trim(tables, area, text, run, rows::u64_at(p, 0)),
-        kinds::ONE => read_one(tables, area, routes, text, run, p),
-        kinds::FUNCTION => function(tables, text, run, p),
-        kinds::INFO_AT => {
-            let ct = rows::u64_at(p, 0);
-            state::with_at(
-                run,
-                probe_cache::put_info_at(text, session.at, tables, t, ct),
-            )
+    // After a call of the cache that prints nothing.
+    fn take_cache(&mut self, left: Result<AnchorsCacheTransaction, Refusal>) {
+        match left {
+            Ok(cache) => self.session.transaction = cache,
+            Err(refusal) => self.bad(refusal),
         }
-        _ => state::with_at(
-            run,
-            probe_cache::put_in_range(text, session.at, tables, t, p),
-        ),
     }
-}
 
-// A record beyond those of extread, its number counted.
-fn beyond(
-    tables: &mut [u8; 14912],
-    area: &mut [u8; 33792],
-    routes: &[u8],
-    text: &mut [u8; 131072],
-    run: Run,
-    kind: u16,
-    p: &[u8],
-) -> Run {
-    let session = run.session;
-    if !kinds::is_well_made(session.records, kind, p) {
-        return bad(text, run, 17);
-    }
-    match kind {
-        kinds::HISTORY => taken(
-            text,
-            run,
-            probe_cache::given::append_info(tables, session.transaction, p),
-        ),
-        kinds::INFO => info(tables, area, text, run, p),
-        kinds::CACHED => taken(
-            text,
-            run,
-            probe_cache::given::append_anchor(tables, area, session.transaction, p),
-        ),
-        kinds::TRIM | kinds::ONE | kinds::FUNCTION | kinds::INFO_AT | kinds::IN_RANGE => {
-            called(tables, area, routes, text, run, kind, p)
+    // After a reader's call that prints nothing.
+    fn take_reader(&mut self, left: Result<ExternalsReader, Refusal>) {
+        match left {
+            Ok(reader) => self.reader = reader,
+            Err(refusal) => self.bad(refusal),
         }
-        _ => reader_record(text, run, kind, p),
+    }
+
+    // The number of a call, 0 where it is done.
+    fn tell<T: Copy>(&mut self, name: &[u8], left: Result<T, Refusal>) {
+        let number = left.map_or_else(u8::from, |_| 0);
+        self.session.at = text::put_call(&mut self.text, self.session.at, name, number);
+    }
+
+    // After a call of the cache whose number is told.
+    fn tell_cache(&mut self, name: &[u8], left: Result<AnchorsCacheTransaction, Refusal>) {
+        self.session.transaction = left.unwrap_or(self.session.transaction);
+        self.tell(name, left);
+    }
+
+    // After a reader's call whose number is told.
+    fn tell_reader(&mut self, name: &[u8], left: Result<ExternalsReader, Refusal>) {
+        self.reader = left.unwrap_or(self.reader);
+        self.tell(name, left);
+    }
+
+    // The payload is a row of the history.
+    fn put_history(&mut self, p: &[u8]) {
+        let left = probe_cache::given::append_info(
+            &mut self.store.tables,
+            self.session.transaction,
+            p,
+        );
+        self.take_cache(left);
+    }
+
+    // The payload is a row of the anchors, and its messages.
+    fn put_cached(&mut self, p: &[u8]) {
+        let left = probe_cache::given::append_anchor(
+            &mut self.store.tables,
+            &mut self.store.area,
+            self.session.transaction,
+            p,
+        );
+        self.take_cache(left);
+    }
+
+    // An entry to the history alone, on the part of the area that is lent.
+    fn info(&mut self, p: &[u8]) {
+        let n = self.store.area_len();
+        let left = probe_cache::given::add_info(
+            &mut self.store.tables,
+            &self.store.area[..n],
+            self.session.transaction,
+            p,
+        );
+        self.tell_cache(b"info", left);
+    }
+
+    // A trim on the part of the area that is lent.
+    fn trim(&mut self, ct: ChainTime) {
+        let n = self.store.area_len();
+        let trimmed = anchors_cache::remove_last_imported_above(
+            &self.store.tables,
+            &self.store.area[..n],
+            self.session.transaction,
+            ct,
+        );
+        self.tell_cache(b"trim", trimmed.map(|after| after.state));
+    }
+
+    fn put_limits(&mut self, p: &[u8]) {
+        let limits = records::limits_of(p);
+        let left = externals_reader::set_buffer_limits_by_partition(self.reader, limits);
+        self.take_reader(left);
+    }
+
+    // The host took: seqno 4, partition 1, number 4.
+    fn took(&mut self, p: &[u8]) {
+        let left = reader_offsets::messages_taken(
+            self.reader,
+            rows::num_at(p, 0),
+            rows::byte_at(p, 4),
+            rows::num_at(p, 5),
+        );
+        self.tell_reader(b"took", left);
+    }
+
+    fn function(&mut self, p: &[u8]) {
+        let called = functions::function(
+            &mut self.text,
+            self.session.at,
+            &self.store.tables,
+            self.session.transaction,
+            self.reader,
+            p,
+        );
+        self.session.at = called.at;
+        self.reader = called.reader;
+    }
+
+    fn put_info_at(&mut self, ct: u64) {
+        self.session.at = probe_cache::put_info_at(
+            &mut self.text,
+            self.session.at,
+            &self.store.tables,
+            self.session.transaction,
+            ct,
+        );
+    }
+
+    fn put_in_range(&mut self, p: &[u8]) {
+        self.session.at = probe_cache::put_in_range(
+            &mut self.text,
+            self.session.at,
+            &self.store.tables,
+            self.session.transaction,
+            p,
+        );
+    }
+
+    fn after_read(&mut self, answered: Answered) {
+        self.session.at = answered.at;
+        self.session.transaction = answered.cache;
+        self.reader = answered.reader;
+    }
+
+    fn read_one(&mut self, p: &[u8]) {
+        let lent = self.store.lent(self.session, self.reader);
+        let answered = read::one(&mut self.text, self.session.at, lent, p);
+        self.after_read(answered);
+    }
+
+    fn read_all(&mut self, mode: GetNextMessageGroupMode) {
+        let lent = self.store.lent(self.session, self.reader);
+        let answered = read::all(&mut self.text, self.session.at, lent, mode);
+        self.after_read(answered);
     }
 }
 
-// A record of extread, on the part of the area that is lent.
-fn plain(
-    tables: &mut [u8],
-    area: &mut [u8],
-    routes: &mut [u8],
-    text: &mut [u8],
-    run: Run,
-    record: &[u8],
-) -> Run {
-    let mut entries = [0u8; 26624];
-    let n = run.area;
-    if area.len() < n {
-        return run;
+// The records one after the other.
+impl Run {
+    pub fn new() -> Self {
+        Run {
+            text: [0; TEXT_BYTES],
+            store: Store::new(),
+            session: session_state::new(),
+            reader: session::no_reader(),
+            plain: false,
+        }
     }
-    let s: Stepped = session::step(
-        tables,
-        &mut area[0..n],
-        routes,
-        &mut entries,
-        text,
-        run.session,
-        run.reader,
-        record,
-    );
-    state::with_reader(state::with_session(run, s.session), s.reader)
-}
 
-fn numbered(run: Run) -> Run {
-    state::with_session(run, session_state::record_counted(run.session))
-}
+    // Before the first record of one more session; the bytes are as the one before left them.
+    pub fn begin(&mut self, plain: bool) {
+        self.store.lend_all();
+        self.session = session_state::new();
+        self.reader = session::no_reader();
+        self.plain = plain;
+    }
 
-// The mode of a read that is taken: 0 `Continue`, 1 `Refill`; 2 for any other record.
-fn read_mode(session: Session, record: &[u8]) -> u8 {
-    if rows::u16_at(record, 0) != records::DO {
-        return 2;
+    // A record beyond those of extread.
+    fn beyond(&mut self, kind: u16, p: &[u8]) {
+        match kinds::check(self.session.records, kind, p) {
+            Ok(kind) => self.called(kind, p),
+            Err(refusal) => self.bad(refusal),
+        }
     }
-    if !session_state::is_taken(session, record) {
-        return 2;
-    }
-    match rows::byte_at(record, 2) {
-        3 => 0,
-        4 => 1,
-        _ => 2,
-    }
-}
 
-fn handled(
-    tables: &mut [u8; 14912],
-    area: &mut [u8; 33792],
-    routes: &mut [u8; 8704],
-    text: &mut [u8; 131072],
-    run: Run,
-    record: &[u8],
-) -> Run {
-    if run.plain {
-        return plain(tables, area, routes, text, run, record);
+    fn called(&mut self, kind: Kind, p: &[u8]) {
+        match kind {
+            Kind::Range => self.take_reader(given::put_range(self.reader, p)),
+            Kind::Partition => self.reader = given::with_partition(self.reader, p),
+            Kind::Marks => self.reader = given::with_marks(self.reader, p),
+            Kind::Places => self.store.places = rows::num_at::<u32>(p, 0) as usize,
+            Kind::Limits => self.put_limits(p),
+            Kind::History => self.put_history(p),
+            Kind::Cached => self.put_cached(p),
+            Kind::Area => self.store.lent = rows::num_at::<u32>(p, 0) as usize,
+            Kind::Trim => self.trim(ChainTime(rows::num_at::<u64>(p, 0))),
+            Kind::One => self.read_one(p),
+            Kind::Took => self.took(p),
+            Kind::Function => self.function(p),
+            Kind::InfoAt => self.put_info_at(rows::num_at::<u64>(p, 0)),
+            Kind::InRange => self.put_in_range(p),
+            Kind::New => self.tell_reader(b"new", renewed(self.reader)),
+            Kind::Info => self.info(p),
+        }
     }
-    let mode = read_mode(run.session, record);
-    if mode < 2 {
-        return read_all(tables, area, routes, text, numbered(run), mode);
-    }
-    let kind = rows::u16_at(record, 0);
-    if kind < 256 {
-        return plain(tables, area, routes, text, run, record);
-    }
-    if record.len() < 2 {
-        return run;
-    }
-    beyond(
-        tables,
-        area,
-        routes,
-        text,
-        numbered(run),
-        kind,
-        &record[2..],
-    )
-}
 
-fn has_state(session: Session, plain: bool) -> bool {
-    if session.stopped {
-        return false;
+    // A record of extread, on the part of the area that is lent.
+    fn step(&mut self, record: &[u8]) {
+        let mut entries = [0; ENTRY_LEN * MAX_PLACES];
+        let n = self.store.area_len();
+        let area = &mut self.store.area[..];
+        let stepped = session::step(
+            &mut self.store.tables,
+            &mut area[..n],
+            &mut self.store.routes,
+            &mut entries,
+            &mut self.text,
+            self.session,
+            self.reader,
+            record,
+        );
+        self.session = stepped.session;
+        self.reader = stepped.reader;
     }
-    if plain {
-        return false;
-    }
-    3 <= session.records
-}
 
-// The text so far is written, and the next one begins at the front.
-fn flushed(rt: &HostRuntime, text: &[u8; 131072], run: Run, at: usize) -> Run {
-    if streams::write_front(&mut rt.stdout(), text, at) {
-        return state::with_at(run, 0);
+    fn record(&mut self, record: &[u8]) {
+        let kind = rows::num_at::<u16>(record, 0);
+        if self.plain {
+            return self.step(record);
+        }
+        if let Some(mode) = read_mode(self.session, record) {
+            self.session = session_state::record_counted(self.session);
+            return self.read_all(mode);
+        }
+        if kind < 256 {
+            return self.step(record);
+        }
+        self.session = session_state::record_counted(self.session);
+        self.beyond(kind, record.get(2..).unwrap_or_default());
     }
-    state::unwritten(run)
-}
 
-// The whole state.
-fn put_state(tables: &[u8], area: &[u8], text: &mut [u8; 131072], run: Run) -> usize {
-    let session = run.session;
-    let at = probe_reader::shown::put_reader(text, 0, run.reader);
-    probe_cache::shown::put_cache(text, at, tables, area, session.transaction)
-}
-
-// What is printed of the session so far; after each record behind the settings that is not refused the state follows.
-fn show(rt: &HostRuntime, tables: &[u8], area: &[u8], text: &mut [u8; 131072], run: Run) -> Run {
-    let session = run.session;
-    let next = flushed(rt, text, run, session.at);
-    if !next.written {
-        return next;
+    // The whole state.
+    fn put_state(&mut self) {
+        let at = probe_reader::shown::put_reader(&mut self.text, 0, self.reader);
+        self.session.at = probe_cache::shown::put_cache(
+            &mut self.text,
+            at,
+            &self.store.tables,
+            &self.store.area,
+            self.session.transaction,
+        );
     }
-    if has_state(session, run.plain) {
-        let at = put_state(tables, area, text, run);
-        return flushed(rt, text, next, at);
-    }
-    next
-}
 
-// The record in the n bytes from a place on.
-fn whole(
-    rt: &HostRuntime,
-    bytes: &[u8],
-    tables: &mut [u8; 14912],
-    area: &mut [u8; 33792],
-    routes: &mut [u8; 8704],
-    text: &mut [u8; 131072],
-    run: Run,
-    at: usize,
-    n: usize,
-) -> Run {
-    if bytes.len() < at {
-        return run;
+    // The text so far is written, and the next one begins at the front.
+    fn flush(&mut self, out: &mut impl Write) -> io::Result<()> {
+        streams::write_front(out, &self.text, self.session.at)?;
+        self.session.at = 0;
+        Ok(())
     }
-    if bytes.len() - at < n {
-        return run;
+
+    // What is printed of the session so far; after each record behind the settings that is not refused the state
+    // follows.
+    fn show(&mut self, out: &mut impl Write) -> io::Result<()> {
+        self.flush(out)?;
+        if self.session.stopped || self.plain || self.session.records < 3 {
+            return Ok(());
+        }
+        self.put_state();
+        self.flush(out)
     }
-    let next = handled(tables, area, routes, text, run, &bytes[at..at + n]);
-    let mut after = show(rt, tables, area, text, next);
-    after.from = std::num::wrapping_add_usize(at, n);
-    after
-}
 
-fn is_cut(run: Run, end: usize) -> bool {
-    if run.cut {
-        return true;
-    }
-    run.from < end
-}
-
-// The input has ended, or ends inside a record.
-fn ended(
-    rt: &HostRuntime,
-    tables: &[u8; 14912],
-    area: &[u8; 33792],
-    text: &mut [u8; 131072],
-    run: Run,
-    end: usize,
-) -> Run {
-    let session = session_state::end(text, run.session, is_cut(run, end));
-    show(rt, tables, area, text, state::with_session(run, session))
-}
-
-// A long record is at hand whole here, unless the input ends in it.
-fn step(
-    rt: &HostRuntime,
-    bytes: &[u8],
-    end: usize,
-    tables: &mut [u8; 14912],
-    area: &mut [u8; 33792],
-    routes: &mut [u8; 8704],
-    text: &mut [u8; 131072],
-    run: Run,
-) -> Run {
-    let found = records::next_record(bytes, run.from, end);
-    let from = std::num::wrapping_add_usize(run.from, 4);
-    match found {
-        Next::Whole(at, n) => whole(rt, bytes, tables, area, routes, text, run, at, n),
-        Next::Long(n) => {
-            if rows::sum_within(from, n, end) {
-                return whole(rt, bytes, tables, area, routes, text, run, from, n);
+    // The session in these bytes; `cut`: what follows them can't be read. Each record takes some of them, so that they
+    // end before the turns do. A write that fails ends it, and nothing follows.
+    pub fn records(&mut self, out: &mut impl Write, bytes: &[u8], cut: bool) -> io::Result<()> {
+        let mut rest = bytes;
+        for _ in 0..=bytes.len() {
+            match split_record(rest) {
+                Some((record, behind)) => {
+                    self.record(record);
+                    rest = behind;
+                }
+                None => {
+                    let cut = cut || !rest.is_empty();
+                    self.session = session_state::end(&mut self.text, self.session, cut);
+                }
             }
-            ended(rt, tables, area, text, run, end)
+            self.show(out)?;
+            if self.session.stopped {
+                return Ok(());
+            }
         }
-        Next::Part => ended(rt, tables, area, text, run, end),
+        Ok(())
     }
-}
-
-// The session in the first `end` bytes; each record takes some of them, so that they end before the turns do.
-// Whether all of its text was written.
-pub fn session(
-    rt: &HostRuntime,
-    bytes: &[u8],
-    end: usize,
-    tables: &mut [u8; 14912],
-    area: &mut [u8; 33792],
-    routes: &mut [u8; 8704],
-    text: &mut [u8; 131072],
-    start: Run,
-) -> bool {
-    let mut run = start;
-    let mut turns = std::num::wrapping_add_usize(end, 1);
-    while 0 < turns {
-        run = step(rt, bytes, end, tables, area, routes, text, run);
-        let session = run.session;
-        if session.stopped {
-            return run.written;
-        }
-        turns -= 1;
-    }
-    run.written
 }

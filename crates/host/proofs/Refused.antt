@@ -1,5 +1,8 @@
 -- A refused call leaves what it was lent: every field of the transaction, the reader and the range, free numbers too,
 -- and every byte of the tables, the message area and the output.
+use Rattle.anchors_cache.specs.declared.AnchorInfo.{AnchorInfo}
+use Rattle.anchors_cache.specs.declared.CachedAnchor.{CachedAnchor}
+use Rattle.std.specs.Prelude.{Option, None, Some}
 use Prim.Native.Nat.{ℕ, zero, suc}
 use mathlib.Core.Path.{◌≡◌, refl, ap, ◌∙◌}
 use mathlib.Core.Bool.{Bool, true, false}
@@ -10,12 +13,10 @@ use Rattle.rows.proofs.Laws.{pick_both, never}
 use Rattle.ext_types.specs.declared.ChainTime.{ChainTime}
 use Rattle.messages_buffer.specs.Fullness.{first_no}
 use Rattle.anchors_cache.specs.declared.AnchorsCacheTransaction.{AnchorsCacheTransaction}
+use Rattle.anchors_cache.specs.declared.AnchorInfo.{AnchorInfo}
+use Rattle.anchors_cache.specs.declared.CachedAnchor.{CachedAnchor}
 use Rattle.anchors_cache.specs.declared.MempoolAnchor.{MempoolAnchor}
-use Rattle.anchors_cache.specs.declared.Done.{Done}
-use Rattle.anchors_cache.specs.declared.FoundAnchor.{FoundAnchor}
-use Rattle.anchors_cache.specs.declared.FoundAnchor.TheVariants as front
-use Rattle.anchors_cache.specs.declared.FoundInfo.{FoundInfo}
-use Rattle.anchors_cache.specs.declared.FoundInfo.TheVariants as last
+use Rattle.anchors_cache.specs.Answers.{Done}
 use Rattle.anchors_cache.specs.Calls.{on_zero, answer, refusal_at, with_cache, row_for, add_number, add_call, info_with, add_info_number, add_info_call, clear_call, open_call, pop_call, commit_call, rollback_call, trim_call, close_call}
 use Rattle.anchors_cache.specs.Tables.{info_row}
 use Rattle.anchors_cache.specs.Windows.{in_history, history_added, added_cache, added_tables, added_area}
@@ -24,20 +25,17 @@ use Rattle.by_reference.proofs.Refused.{a_refused_open_leaves_the_transaction, a
 use Rattle.range_rules.specs.declared.ExternalsRangeReaderState.{ExternalsRangeReaderState}
 use Rattle.reader_rules.specs.declared.ExternalsReader.{ExternalsReader}
 use Rattle.reader_rules.specs.declared.GetNextMessageGroupMode.{GetNextMessageGroupMode}
-use Rattle.range_rules.specs.declared.RangeRead.{RangeRead}
-use Rattle.range_rules.specs.declared.LastChainTime.{LastChainTime}
-use Rattle.range_rules.specs.declared.LastChainTime.TheVariants.{Nothing, Time}
+use Rattle.range_rules.specs.Walks.{RangeRead}
 use Rattle.range_rules.specs.Rules.{Outcome}
 use Rattle.range_reader.specs.Calls.{ReadResult, asked_number, range_read, refused_answer, done_result, read_answer, read_call}
-use Rattle.externals_reader.specs.declared.ReaderDone.{ReaderDone}
+use Rattle.externals_reader.specs.Answers.{ReaderDone}
 use Rattle.externals_reader.specs.Calls.{ReadAllResult, unchanged, asked_of_read, all_ranges_read, read_all_call}
 use Rattle.host.specs.declared.HistoryEntry.{HistoryEntry}
 use Rattle.host.specs.declared.Reader.{Reader}
-use Rattle.host.specs.declared.ReaderAfter.{ReaderAfter}
 use Rattle.host.specs.declared.SavedTime.{SavedTime}
 use Rattle.host.specs.declared.RangeSettings.{RangeSettings}
 use Rattle.host.specs.Shapes.{reader_of, group_mode, range_mode, last_time, saved_time, held_reader, left_reader, anchor_shown, info_shown}
-use Rattle.host.specs.Calls.{Added, add_shown, entry_shown, pop_shown, trim_shown, reader_shown, on_reader, new_shown, read_all_shown, read_all, read_range_shown, read_range}
+use Rattle.host.specs.Calls.{Added, ReaderAfter, add_shown, entry_shown, pop_shown, trim_shown, reader_shown, on_reader, new_shown, read_all_shown, read_all, read_range_shown, read_range}
 
 -- ---- what the calls that change something are lent to change, and what they leave
 pub record Lent : Type 0 where
@@ -109,13 +107,13 @@ called (ext_read_externals_into_buffers routes settings) l =
     with_range_read l (read_range l.out l.tables l.area routes settings (record { transaction = l.transaction; range = l.range }))
 
 -- ---- each kind of call
-front_number : (n : ℕ) (f : FoundAnchor) (author : List ℕ) → (anchor_shown n f author).number ≡ n
-front_number n (front.Anchor a) author = refl
-front_number n front.Nothing author = refl
+front_number : (n : ℕ) (f : Option CachedAnchor) (author : List ℕ) → (anchor_shown n f author).number ≡ n
+front_number n (Some a) author = refl
+front_number n None author = refl
 
-last_number : (n : ℕ) (f : FoundInfo) (author : List ℕ) → (info_shown n f author).number ≡ n
-last_number n (last.Info i) author = refl
-last_number n last.Nothing author = refl
+last_number : (n : ℕ) (f : Option AnchorInfo) (author : List ℕ) → (info_shown n f author).number ≡ n
+last_number n (Some i) author = refl
+last_number n None author = refl
 
 pub a_refused_call_leaves_the_host's_reader : (was : Reader) (n : ℕ) (r : ExternalsReader) → (n ≡ 0 → ⊥) → left_reader was n r ≡ was
 unfolding left_reader
@@ -209,9 +207,9 @@ unfolding left_reader held_reader
 a_time_that_is_not_marked_stays_as_it_was was (suc n) r e = refl
 a_time_that_is_not_marked_stays_as_it_was was zero r e = go r.reader_state.last_read_to_anchor_chain_time e
   where
-    go : (l : LastChainTime) → (saved_time (time_of_lem was).time l).present ≡ false → (saved_time (time_of_lem was).time l).time ≡ (time_of_lem was).time
-    go Nothing e = refl
-    go (Time ct) e = never e
+    go : (l : Option ChainTime) → (saved_time (time_of_lem was).time l).present ≡ false → (saved_time (time_of_lem was).time l).time ≡ (time_of_lem was).time
+    go None e = refl
+    go (Some ct) e = never e
 
 -- what the core leaves as it was, the host keeps as it was
 pub a_call_that_changes_nothing_leaves_every_field : (was : Reader) (n : ℕ) → left_reader was n (reader_of was) ≡ was

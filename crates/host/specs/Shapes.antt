@@ -1,23 +1,15 @@
 -- What a host holds, against what the calls take: the enums as a mark and what it marks.
-use Rattle.std.specs.Prelude.{ℕ, Bool, true, false, List}
+use Rattle.std.specs.Prelude.{ℕ, Bool, true, false, List, Option, None, Some}
 use Rattle.ext_types.specs.declared.ChainTime.{ChainTime}
 use Rattle.anchors_cache.specs.declared.AnchorInfo.{AnchorInfo}
 use Rattle.anchors_cache.specs.declared.CachedAnchor.{CachedAnchor}
-use Rattle.anchors_cache.specs.declared.FoundAnchor.{FoundAnchor}
-use Rattle.anchors_cache.specs.declared.FoundAnchor.TheVariants as front
-use Rattle.anchors_cache.specs.declared.FoundInfo.{FoundInfo}
-use Rattle.anchors_cache.specs.declared.FoundInfo.TheVariants as last
-use Rattle.anchors_cache.specs.declared.InfoAnswer.{InfoAnswer}
-use Rattle.anchors_cache.specs.declared.AnchorAnswer.{AnchorAnswer}
+use Rattle.anchors_cache.specs.Answers.{InfoAnswer}
+use Rattle.anchors_cache.specs.Answers.{AnchorAnswer}
 use Rattle.anchors_cache.specs.Calls.{on_zero}
-use Rattle.range_rules.specs.declared.LastChainTime.{LastChainTime}
-use Rattle.range_rules.specs.declared.LastChainTime.TheVariants.{Nothing, Time}
 use Rattle.range_rules.specs.declared.ReadNextExternalsMode.{ReadNextExternalsMode}
 use Rattle.range_rules.specs.declared.ReadNextExternalsMode.TheVariants.{ToTheEnd, ToPreviuosReadTo}
 use Rattle.reader_rules.specs.declared.GetNextMessageGroupMode.{GetNextMessageGroupMode}
 use Rattle.reader_rules.specs.declared.GetNextMessageGroupMode.TheVariants.{Continue, Refill}
-use Rattle.reader_rules.specs.declared.LastFree.{LastFree}
-use Rattle.reader_rules.specs.declared.LastFree.TheVariants as lastFree
 use Rattle.reader_rules.specs.declared.ExternalsReader.{ExternalsReader}
 use Rattle.reader_rules.specs.declared.ExternalsReaderState.{ExternalsReaderState}
 use Rattle.host.specs.declared.SavedTime.{SavedTime}
@@ -40,19 +32,19 @@ range_mode false = ToTheEnd
 abbrev pub no_time : ChainTime
 no_time = record { 0 = 0 }
 
-abbrev pub last_time : Bool → ChainTime → LastChainTime
-last_time true ct = Time ct
-last_time false ct = Nothing
+abbrev pub last_time : Bool → ChainTime → Option ChainTime
+last_time true ct = Some ct
+last_time false ct = None
 
 -- where there is none, the time beside the mark is free
-abbrev pub saved_time : ChainTime → LastChainTime → SavedTime
-saved_time unset Nothing = record { present = false; time = unset }
-saved_time unset (Time ct) = record { present = true; time = ct }
+abbrev pub saved_time : ChainTime → Option ChainTime → SavedTime
+saved_time unset None = record { present = false; time = unset }
+saved_time unset (Some ct) = record { present = true; time = ct }
 
 -- ---- free places that may be missing
-abbrev pub free_of : LastFree → Free
-free_of lastFree.Nothing = record { present = false; places = 0 }
-free_of (lastFree.Places n) = record { present = true; places = n }
+abbrev pub free_of : Option ℕ → Free
+free_of None = record { present = false; places = 0 }
+free_of (Some n) = record { present = true; places = n }
 
 -- ---- the reader
 abbrev pub state_of : ReaderState → ExternalsReaderState
@@ -94,16 +86,16 @@ left_reader was number r = on_zero number (held_reader was.reader_state.last_rea
 abbrev pub no_anchor : CachedAnchor
 no_anchor = record { id = 0; chain_time = no_time; ours = 0; count = 0; place = 0 }
 
-abbrev pub anchor_shown : ℕ → FoundAnchor → List ℕ → AnchorShown
-anchor_shown number (front.Anchor a) author = record { number = number; found = true; anchor = a; author = author }
-anchor_shown number front.Nothing author = record { number = number; found = false; anchor = no_anchor; author = author }
+abbrev pub anchor_shown : ℕ → Option CachedAnchor → List ℕ → AnchorShown
+anchor_shown number (Some a) author = record { number = number; found = true; anchor = a; author = author }
+anchor_shown number None author = record { number = number; found = false; anchor = no_anchor; author = author }
 
 abbrev pub no_info : AnchorInfo
 no_info = record { id = 0; ct = no_time; all_exts_count = 0; our_exts_count = 0 }
 
-abbrev pub info_shown : ℕ → FoundInfo → List ℕ → InfoShown
-info_shown number (last.Info i) author = record { number = number; found = true; info = i; author = author }
-info_shown number last.Nothing author = record { number = number; found = false; info = no_info; author = author }
+abbrev pub info_shown : ℕ → Option AnchorInfo → List ℕ → InfoShown
+info_shown number (Some i) author = record { number = number; found = true; info = i; author = author }
+info_shown number None author = record { number = number; found = false; info = no_info; author = author }
 
 abbrev pub anchor_answer : AnchorAnswer → AnchorShown
 anchor_answer a = anchor_shown a.number a.anchor a.author

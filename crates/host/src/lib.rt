@@ -7,23 +7,34 @@ ghost use Rattle.std.specs.Prelude.{◌≡◌, length};
 ghost use Rattle.shard_ident.specs.Shard.{contains_message};
 ghost use Rattle.router.specs.Router.{routes_number, get_partition};
 ghost use Rattle.messages_buffer.specs.Fullness.{fill_state};
+ghost use Rattle.anchors_cache.specs.Answers.{done_of};
 ghost use Rattle.anchors_cache.specs.Calls.{pop_call, trim_call, clear_call, open_call, commit_call, rollback_call, close_call, last_info_call, info_at_ct_call, get_call, pending_call, pending_in_range_call, closed_transaction};
+ghost use Rattle.reader_rules.specs.declared.ExternalsReader.{ExternalsReader as CoreReader};
+ghost use Rattle.externals_reader.specs.Answers.{reader_done_of};
 ghost use Rattle.externals_reader.specs.Calls.{reset_call, drop_last_call, partition_ids_call, next_range_call};
 ghost use Rattle.reader_offsets.specs.Calls.{finalize_call, limit_reached_call, non_zero_offset_call, offset_reached_call, offsets_reached_call, count_call, has_messages_call, not_fully_read_call, read_and_collected_call, check_read_and_collected_call, all_collected_call, last_offsets_call, retain_call, set_from_call, increment_call, drop_call, set_skip_call, set_processed_call, taken_call, pending_externals_call};
 ghost use Rattle.host.specs.Shapes.{reader_of, anchor_answer, info_answer};
-ghost use Rattle.host.specs.Calls.{pop_shown, trim_shown, add_shown, entry_shown, ours_shown, partition_shown, on_reader, limits_set, new_shown, read_all_shown, read_all, read_range_shown, read_range};
+ghost use Rattle.host.specs.Calls.{pop_shown, trim_shown, add_shown, entry_shown, flag_shown, ours_shown, partition_shown, fill_shown, partition_ids_shown, next_range_shown, by_partitions_shown, reader_shown, on_reader, limits_set, new_shown, read_all_shown, read_all, read_range_shown, read_range};
 
-use anchors_cache::{AnchorInfo, AnchorsCacheTransaction, CachedAnchor, FlagAnswer, MempoolAnchor};
+use anchors_cache::{AnchorInfo, AnchorsCacheTransaction, CachedAnchor, MempoolAnchor};
 use cache_rules::AUTHOR_BYTES;
 use ext_types::{ChainTime, ExternalKey, Seconds};
-use externals_reader::{NextRange, PartitionIds};
-use messages_buffer::FillState;
-use range_rules::{ExternalsRangeReaderState, ProcessedTo, ReadCounts};
-use reader_rules::{ByPartitions, ExternalsPartitionReaderState, MAX_RANGES, MsgsExecutionParams};
+use range_rules::{ExternalsRangeReaderState, NO_COUNTS, ProcessedTo, ReadCounts};
+use reader_rules::{
+    ExternalsPartitionReaderState, ExternalsReader, MAX_RANGES, MsgsExecutionParams,
+};
+use refusals::Refusal;
 use shard_ident::ShardIdent;
 
-mod cores;
 mod shapes;
+
+// Number 0 and the fewest free places of a buffer of the range, or the number of the question that was answered "no".
+#[repr(C)]
+#[derive(Clone, Copy)]
+pub struct FillState {
+    pub number: u8,
+    pub free: u16,
+}
 
 // A chain time, where there is one.
 #[repr(C)]
@@ -96,7 +107,14 @@ pub struct BufferLimits {
     pub by_partitions: [u16; 8],
 }
 
-// Answers.
+// Answers: the number, and with 0 the values that the call tells.
+#[repr(C)]
+#[derive(Clone, Copy)]
+pub struct FlagAnswer {
+    pub number: u8,
+    pub flag: bool,
+}
+
 #[repr(C)]
 #[derive(Clone, Copy)]
 pub struct AnchorShown {
@@ -150,35 +168,71 @@ pub struct RangeAnswer {
     pub counts: ReadCounts,
 }
 
-// What a core answers, and the state that the thin call stores.
+// Which partitions there are.
+#[repr(C)]
 #[derive(Clone, Copy)]
-pub(crate) struct AnchorPopped {
-    pub answer: AnchorShown,
-    pub state: AnchorsCacheTransaction,
-}
-
-#[derive(Clone, Copy)]
-pub(crate) struct InfoTrimmed {
-    pub answer: InfoShown,
-    pub state: AnchorsCacheTransaction,
-}
-
-#[derive(Clone, Copy)]
-pub(crate) struct ReaderAfter {
+pub struct PartitionIds {
     pub number: u8,
-    pub reader: Reader,
+    pub present: [bool; 8],
 }
 
+// The range that a block would append.
+#[repr(C)]
 #[derive(Clone, Copy)]
-pub(crate) struct AllRead {
-    pub answer: AllAnswer,
-    pub state: Externals,
+pub struct NextRange {
+    pub number: u8,
+    pub range: ExternalsRangeReaderState,
 }
 
+// A number for each partition that is present, and 0 for the others.
+#[repr(C)]
 #[derive(Clone, Copy)]
-pub(crate) struct RangeRead {
-    pub answer: RangeAnswer,
-    pub state: RangeAndCache,
+pub struct ByPartitions {
+    pub number: u8,
+    pub values: [u32; 8],
+    pub present: [bool; 8],
+}
+
+// The number of a call on the transaction by value; where it is done, what it left is stored.
+fn stored(done: Result<AnchorsCacheTransaction, Refusal>, t: &mut AnchorsCacheTransaction) -> u8
+    ensures { (result ≡ (done_of t.old done).number) × (t.new ≡ (done_of t.old done).state) }
+{
+    match done {
+        Ok(state) => {
+            *t = state;
+            0
+        }
+        Err(refusal) => refusal.into(),
+    }
+}
+
+// The same of a call on the reader. Which reader the call was handed counts nowhere: a refused one leaves the host's.
+#[tactic(auto, using(reader_offsets::proofs::Numbers::on_refusal, refusals::proofs::Laws::refused_is_not_done), unfolding(crate::specs::Calls::reader_shown, crate::specs::Shapes::left_reader))]
+fn held(done: Result<ExternalsReader, Refusal>, reader: &mut Reader) -> u8
+    ensures { (handed : CoreReader)
+        → (result ≡ (reader_shown reader.old (reader_done_of handed done)).number)
+        × (reader.new ≡ (reader_shown reader.old (reader_done_of handed done)).reader) }
+{
+    match done {
+        Ok(next) => {
+            reader.hold(next);
+            0
+        }
+        Err(refusal) => refusal.into(),
+    }
+}
+
+// A call on the host's reader in the core's shape.
+fn changed<F: FnOnce(ExternalsReader) -> Result<ExternalsReader, Refusal>>(
+    reader: &mut Reader,
+    call: F,
+) -> u8
+    requires { F.pre call (reader_of reader.old) }
+    ensures { (done : _) × F.post call (reader_of reader.old) done
+        × (result ≡ (reader_shown reader.old (reader_done_of (reader_of reader.old) done)).number)
+        × (reader.new ≡ (reader_shown reader.old (reader_done_of (reader_of reader.old) done)).reader) }
+{
+    held(call((*reader).into()), reader)
 }
 
 // ---- the cache
@@ -194,9 +248,7 @@ pub extern "C" fn ext_open(t: &mut AnchorsCacheTransaction, tables: &[u8], area:
     ensures { (result ≡ (open_call (length area.now) tables.now t.old).number)
         × (t.new ≡ (open_call (length area.now) tables.now t.old).state) }
 {
-    let r = anchors_cache::open(tables, area, *t);
-    *t = r.state;
-    r.number
+    refusals::number(by_reference::open(t, tables, area))
 }
 
 #[unsafe(no_mangle)]
@@ -204,9 +256,7 @@ pub extern "C" fn ext_commit(t: &mut AnchorsCacheTransaction, tables: &[u8], are
     ensures { (result ≡ (commit_call (length area.now) tables.now t.old).number)
         × (t.new ≡ (commit_call (length area.now) tables.now t.old).state) }
 {
-    let r = anchors_cache::commit(tables, area, *t);
-    *t = r.state;
-    r.number
+    refusals::number(by_reference::commit(t, tables, area))
 }
 
 #[unsafe(no_mangle)]
@@ -214,9 +264,7 @@ pub extern "C" fn ext_rollback(t: &mut AnchorsCacheTransaction, tables: &[u8], a
     ensures { (result ≡ (rollback_call (length area.now) tables.now t.old).number)
         × (t.new ≡ (rollback_call (length area.now) tables.now t.old).state) }
 {
-    let r = anchors_cache::rollback(tables, area, *t);
-    *t = r.state;
-    r.number
+    refusals::number(by_reference::rollback(t, tables, area))
 }
 
 #[unsafe(no_mangle)]
@@ -224,9 +272,7 @@ pub extern "C" fn ext_close(t: &mut AnchorsCacheTransaction, tables: &[u8], area
     ensures { (result ≡ (close_call (length area.now) tables.now t.old).number)
         × (t.new ≡ (close_call (length area.now) tables.now t.old).state) }
 {
-    let r = anchors_cache::close(tables, area, *t);
-    *t = r.state;
-    r.number
+    refusals::number(by_reference::close(t, tables, area))
 }
 
 #[unsafe(no_mangle)]
@@ -234,11 +280,10 @@ pub extern "C" fn ext_clear(t: &mut AnchorsCacheTransaction, tables: &[u8], area
     ensures { (result ≡ (clear_call (length area.now) tables.now t.old).number)
         × (t.new ≡ (clear_call (length area.now) tables.now t.old).state) }
 {
-    let r = anchors_cache::clear(tables, area, *t);
-    *t = r.state;
-    r.number
+    stored(anchors_cache::clear(tables, area, *t), t)
 }
 
+#[tactic(auto, unfolding(crate::specs::Calls::pop_shown))]
 #[unsafe(no_mangle)]
 pub extern "C" fn ext_pop_front(
     t: &mut AnchorsCacheTransaction,
@@ -248,11 +293,10 @@ pub extern "C" fn ext_pop_front(
     ensures { (result ≡ (pop_shown (pop_call (length area.now) tables.now t.old)).answer)
         × (t.new ≡ (pop_shown (pop_call (length area.now) tables.now t.old)).state) }
 {
-    let r = cores::popped(tables, area, *t);
-    *t = r.state;
-    r.answer
+    by_reference::pop_front(t, tables, area).into()
 }
 
+#[tactic(auto, unfolding(crate::specs::Calls::trim_shown))]
 #[unsafe(no_mangle)]
 pub extern "C" fn ext_remove_last_imported_above(
     t: &mut AnchorsCacheTransaction,
@@ -263,12 +307,11 @@ pub extern "C" fn ext_remove_last_imported_above(
     ensures { (result ≡ (trim_shown (trim_call (length area.now) ct.0 tables.now t.old)).answer)
         × (t.new ≡ (trim_shown (trim_call (length area.now) ct.0 tables.now t.old)).state) }
 {
-    let r = cores::trimmed(tables, area, ct, *t);
-    *t = r.state;
-    r.answer
+    by_reference::remove_last_imported_above(t, tables, area, ct).into()
 }
 
 // An anchor to the history always, to the cache where ours is above 0.
+#[tactic(auto, unfolding(crate::specs::Calls::add_shown))]
 #[unsafe(no_mangle)]
 pub extern "C" fn ext_add(
     t: &mut AnchorsCacheTransaction,
@@ -283,12 +326,12 @@ pub extern "C" fn ext_add(
         × (tables.new ≡ (add_shown tables.old area.old anchor our_exts_count messages.now t.old).tables)
         × (area.new ≡ (add_shown tables.old area.old anchor our_exts_count messages.now t.old).area) }
 {
-    let r = cores::added(tables, area, anchor, our_exts_count, messages, *t);
-    *t = r.state;
-    r.number
+    let done = anchors_cache::add(tables, area, *t, anchor, our_exts_count, messages);
+    stored(done, t)
 }
 
 // An entry to the history alone.
+#[tactic(auto, unfolding(crate::specs::Calls::entry_shown))]
 #[unsafe(no_mangle)]
 pub extern "C" fn ext_add_imported_anchor_info(
     t: &mut AnchorsCacheTransaction,
@@ -300,9 +343,8 @@ pub extern "C" fn ext_add_imported_anchor_info(
         × (t.new ≡ (entry_shown tables.old area.now entry t.old).done.state)
         × (tables.new ≡ (entry_shown tables.old area.now entry t.old).tables) }
 {
-    let r = cores::entry_added(tables, area, entry, *t);
-    *t = r.state;
-    r.number
+    let done = anchors_cache::add_imported_anchor_info(tables, area, *t, entry.info, entry.author);
+    stored(done, t)
 }
 
 #[unsafe(no_mangle)]
@@ -312,10 +354,7 @@ pub extern "C" fn ext_last_imported_anchor_info(
 ) -> InfoShown
     ensures { result ≡ info_answer (last_info_call tables.now t) }
 {
-    let a = anchors_cache::last_imported_anchor_info(tables, t);
-    let info = a.info;
-    let author = a.author;
-    shapes::info_shown(a.number, info, author)
+    anchors_cache::last_imported_anchor_info(tables, t).into()
 }
 
 #[unsafe(no_mangle)]
@@ -326,20 +365,14 @@ pub extern "C" fn ext_last_imported_anchor_info_at_ct(
 ) -> InfoShown
     ensures { result ≡ info_answer (info_at_ct_call ct.0 tables.now t) }
 {
-    let a = anchors_cache::last_imported_anchor_info_at_ct(tables, t, ct);
-    let info = a.info;
-    let author = a.author;
-    shapes::info_shown(a.number, info, author)
+    anchors_cache::last_imported_anchor_info_at_ct(tables, t, ct).into()
 }
 
 #[unsafe(no_mangle)]
 pub extern "C" fn ext_get(tables: &[u8], t: AnchorsCacheTransaction, index: usize) -> AnchorShown
     ensures { result ≡ anchor_answer (get_call index tables.now t) }
 {
-    let a = anchors_cache::get(tables, t, index);
-    let anchor = a.anchor;
-    let author = a.author;
-    shapes::anchor_shown(a.number, anchor, author)
+    anchors_cache::get(tables, t, index).into()
 }
 
 #[unsafe(no_mangle)]
@@ -347,9 +380,9 @@ pub extern "C" fn ext_cache_has_pending_externals(
     tables: &[u8],
     t: AnchorsCacheTransaction,
 ) -> FlagAnswer
-    ensures { result ≡ pending_call tables.now t }
+    ensures { result ≡ flag_shown (pending_call tables.now t) }
 {
-    anchors_cache::has_pending_externals(tables, t)
+    anchors_cache::has_pending_externals(tables, t).into()
 }
 
 #[unsafe(no_mangle)]
@@ -358,9 +391,9 @@ pub extern "C" fn ext_check_has_pending_externals_in_range(
     t: AnchorsCacheTransaction,
     up_to: ExternalKey,
 ) -> FlagAnswer
-    ensures { result ≡ pending_in_range_call up_to tables.now t }
+    ensures { result ≡ flag_shown (pending_in_range_call up_to tables.now t) }
 {
-    anchors_cache::check_has_pending_externals_in_range(tables, t, up_to)
+    anchors_cache::check_has_pending_externals_in_range(tables, t, up_to).into()
 }
 
 // ---- whose a message is, and its partition
@@ -369,34 +402,39 @@ pub extern "C" fn ext_check_has_pending_externals_in_range(
 pub extern "C" fn ext_contains_message(shard: ShardIdent, message: &[u8]) -> FlagAnswer
     ensures { result ≡ ours_shown (contains_message shard message.now) }
 {
-    let m = shard_ident::contains_message(shard, message);
-    shapes::ours_shown(m)
+    shard_ident::contains_message(shard, message).into()
 }
 
 #[unsafe(no_mangle)]
 pub extern "C" fn ext_check_routes(routes: &[u8]) -> u8
     ensures { result ≡ routes_number routes.now }
 {
-    router::check_routes(routes)
+    refusals::number(router::check_routes(routes))
 }
 
 #[unsafe(no_mangle)]
 pub extern "C" fn ext_get_partition(routes: &[u8], message: &[u8]) -> PartitionShown
     ensures { result ≡ partition_shown (get_partition routes.now message.now) }
 {
-    let routed = router::get_partition(routes, message);
-    shapes::partition_shown(routed)
+    router::get_partition(routes, message).into()
 }
 
 // ---- the reader
 // The host fills in the reader and the state that it goes on from; the call makes it ready.
+#[tactic(auto, unfolding(crate::specs::Calls::new_shown))]
 #[unsafe(no_mangle)]
 pub extern "C" fn ext_new_reader(reader: &mut Reader) -> u8
     ensures { (result ≡ (new_shown reader.old).number) × (reader.new ≡ (new_shown reader.old).reader) }
 {
-    let r = cores::entered(*reader);
-    *reader = r.reader;
-    r.number
+    let done = externals_reader::new(
+        reader.for_shard_id,
+        reader.block_seqno,
+        reader.next_chain_time,
+        reader.msgs_exec_params,
+        reader.buffer_limits_by_partitions,
+        reader.reader_state.into(),
+    );
+    held(done, reader)
 }
 
 #[unsafe(no_mangle)]
@@ -407,63 +445,61 @@ pub extern "C" fn ext_set_buffer_limits_by_partition(
     ensures { (result ≡ (on_reader (limits_set limits) reader.old).number)
         × (reader.new ≡ (on_reader (limits_set limits) reader.old).reader) }
 {
-    let r = cores::limits_set(limits, *reader);
-    *reader = r.reader;
-    r.number
+    changed(
+        reader,
+        |r| externals_reader::set_buffer_limits_by_partition(r, limits.by_partitions),
+    )
 }
 
 #[unsafe(no_mangle)]
 pub extern "C" fn ext_reset_read_state(reader: &mut Reader) -> u8
     ensures { (result ≡ (on_reader reset_call reader.old).number) × (reader.new ≡ (on_reader reset_call reader.old).reader) }
 {
-    let r = cores::reset(*reader);
-    *reader = r.reader;
-    r.number
+    changed(reader, externals_reader::reset_read_state)
 }
 
 #[unsafe(no_mangle)]
 pub extern "C" fn ext_drop_last_read_to_anchor_chain_time(reader: &mut Reader) -> u8
     ensures { (result ≡ (on_reader drop_last_call reader.old).number) × (reader.new ≡ (on_reader drop_last_call reader.old).reader) }
 {
-    let r = cores::last_dropped(*reader);
-    *reader = r.reader;
-    r.number
+    changed(
+        reader,
+        externals_reader::drop_last_read_to_anchor_chain_time,
+    )
 }
 
 #[unsafe(no_mangle)]
 pub extern "C" fn ext_finalize(reader: &mut Reader) -> u8
     ensures { (result ≡ (on_reader finalize_call reader.old).number) × (reader.new ≡ (on_reader finalize_call reader.old).reader) }
 {
-    let r = cores::finalized(*reader);
-    *reader = r.reader;
-    r.number
+    changed(reader, reader_offsets::finalize)
 }
 
 #[unsafe(no_mangle)]
 pub extern "C" fn ext_retain_only_last_range_state(reader: &mut Reader) -> u8
     ensures { (result ≡ (on_reader retain_call reader.old).number) × (reader.new ≡ (on_reader retain_call reader.old).reader) }
 {
-    let r = cores::retained(*reader);
-    *reader = r.reader;
-    r.number
+    changed(reader, reader_offsets::retain_only_last_range_state)
 }
 
 #[unsafe(no_mangle)]
 pub extern "C" fn ext_set_from_to_current_position_in_last_range_state(reader: &mut Reader) -> u8
     ensures { (result ≡ (on_reader set_from_call reader.old).number) × (reader.new ≡ (on_reader set_from_call reader.old).reader) }
 {
-    let r = cores::from_set(*reader);
-    *reader = r.reader;
-    r.number
+    changed(
+        reader,
+        reader_offsets::set_from_to_current_position_in_last_range_state,
+    )
 }
 
 #[unsafe(no_mangle)]
 pub extern "C" fn ext_increment_curr_processed_offset(reader: &mut Reader, par_id: u8) -> u8
     ensures { (result ≡ (on_reader (increment_call par_id) reader.old).number) × (reader.new ≡ (on_reader (increment_call par_id) reader.old).reader) }
 {
-    let r = cores::incremented(par_id, *reader);
-    *reader = r.reader;
-    r.number
+    changed(
+        reader,
+        |r| reader_offsets::increment_curr_processed_offset(r, par_id),
+    )
 }
 
 #[unsafe(no_mangle)]
@@ -474,131 +510,136 @@ pub extern "C" fn ext_drop_processing_offset(
 ) -> u8
     ensures { (result ≡ (on_reader (drop_call par_id drop_skip_offset) reader.old).number) × (reader.new ≡ (on_reader (drop_call par_id drop_skip_offset) reader.old).reader) }
 {
-    let r = cores::offset_dropped(par_id, drop_skip_offset, *reader);
-    *reader = r.reader;
-    r.number
+    changed(
+        reader,
+        |r| reader_offsets::drop_processing_offset(r, par_id, drop_skip_offset),
+    )
 }
 
 #[unsafe(no_mangle)]
 pub extern "C" fn ext_set_skip_processed_offset_to_current(reader: &mut Reader, par_id: u8) -> u8
     ensures { (result ≡ (on_reader (set_skip_call par_id) reader.old).number) × (reader.new ≡ (on_reader (set_skip_call par_id) reader.old).reader) }
 {
-    let r = cores::skip_set(par_id, *reader);
-    *reader = r.reader;
-    r.number
+    changed(
+        reader,
+        |r| reader_offsets::set_skip_processed_offset_to_current(r, par_id),
+    )
 }
 
 #[unsafe(no_mangle)]
 pub extern "C" fn ext_set_processed_to_current_position(reader: &mut Reader, par_id: u8) -> u8
     ensures { (result ≡ (on_reader (set_processed_call par_id) reader.old).number) × (reader.new ≡ (on_reader (set_processed_call par_id) reader.old).reader) }
 {
-    let r = cores::processed_set(par_id, *reader);
-    *reader = r.reader;
-    r.number
+    changed(
+        reader,
+        |r| reader_offsets::set_processed_to_current_position(r, par_id),
+    )
 }
 
 #[unsafe(no_mangle)]
 pub extern "C" fn ext_messages_taken(reader: &mut Reader, seqno: u32, par_id: u8, taken: u32) -> u8
     ensures { (result ≡ (on_reader (taken_call seqno par_id taken) reader.old).number) × (reader.new ≡ (on_reader (taken_call seqno par_id taken) reader.old).reader) }
 {
-    let r = cores::taken(seqno, par_id, taken, *reader);
-    *reader = r.reader;
-    r.number
+    changed(
+        reader,
+        |r| reader_offsets::messages_taken(r, seqno, par_id, taken),
+    )
 }
 
 #[unsafe(no_mangle)]
 pub extern "C" fn ext_open_ranges_limit_reached(reader: Reader) -> FlagAnswer
-    ensures { result ≡ limit_reached_call (reader_of reader) }
+    ensures { result ≡ flag_shown (limit_reached_call (reader_of reader)) }
 {
-    reader_offsets::open_ranges_limit_reached(shapes::reader_of(reader))
+    reader_offsets::open_ranges_limit_reached(reader.into()).into()
 }
 
 #[unsafe(no_mangle)]
 pub extern "C" fn ext_has_non_zero_processed_offset(reader: Reader) -> FlagAnswer
-    ensures { result ≡ non_zero_offset_call (reader_of reader) }
+    ensures { result ≡ flag_shown (non_zero_offset_call (reader_of reader)) }
 {
-    reader_offsets::has_non_zero_processed_offset(shapes::reader_of(reader))
+    reader_offsets::has_non_zero_processed_offset(reader.into()).into()
 }
 
 #[unsafe(no_mangle)]
 pub extern "C" fn ext_last_range_offset_reached(reader: Reader, par_id: u8) -> FlagAnswer
-    ensures { result ≡ offset_reached_call par_id (reader_of reader) }
+    ensures { result ≡ flag_shown (offset_reached_call par_id (reader_of reader)) }
 {
-    reader_offsets::last_range_offset_reached(shapes::reader_of(reader), par_id)
+    reader_offsets::last_range_offset_reached(reader.into(), par_id).into()
 }
 
 #[unsafe(no_mangle)]
 pub extern "C" fn ext_last_range_offsets_reached_in_all_partitions(reader: Reader) -> FlagAnswer
-    ensures { result ≡ offsets_reached_call (reader_of reader) }
+    ensures { result ≡ flag_shown (offsets_reached_call (reader_of reader)) }
 {
-    reader_offsets::last_range_offsets_reached_in_all_partitions(shapes::reader_of(reader))
+    reader_offsets::last_range_offsets_reached_in_all_partitions(reader.into()).into()
 }
 
 #[unsafe(no_mangle)]
 pub extern "C" fn ext_count_messages_in_buffers_by_partitions(reader: Reader) -> ByPartitions
-    ensures { result ≡ count_call (reader_of reader) }
+    ensures { result ≡ by_partitions_shown (count_call (reader_of reader)) }
 {
-    reader_offsets::count_messages_in_buffers_by_partitions(shapes::reader_of(reader))
+    reader_offsets::count_messages_in_buffers_by_partitions(reader.into()).into()
 }
 
 #[unsafe(no_mangle)]
 pub extern "C" fn ext_has_messages_in_buffers(reader: Reader) -> FlagAnswer
-    ensures { result ≡ has_messages_call (reader_of reader) }
+    ensures { result ≡ flag_shown (has_messages_call (reader_of reader)) }
 {
-    reader_offsets::has_messages_in_buffers(shapes::reader_of(reader))
+    reader_offsets::has_messages_in_buffers(reader.into()).into()
 }
 
 #[unsafe(no_mangle)]
 pub extern "C" fn ext_has_not_fully_read_ranges(reader: Reader) -> FlagAnswer
-    ensures { result ≡ not_fully_read_call (reader_of reader) }
+    ensures { result ≡ flag_shown (not_fully_read_call (reader_of reader)) }
 {
-    reader_offsets::has_not_fully_read_ranges(shapes::reader_of(reader))
+    reader_offsets::has_not_fully_read_ranges(reader.into()).into()
 }
 
 #[unsafe(no_mangle)]
 pub extern "C" fn ext_all_ranges_read_and_collected(reader: Reader) -> FlagAnswer
-    ensures { result ≡ read_and_collected_call (reader_of reader) }
+    ensures { result ≡ flag_shown (read_and_collected_call (reader_of reader)) }
 {
-    reader_offsets::all_ranges_read_and_collected(shapes::reader_of(reader))
+    reader_offsets::all_ranges_read_and_collected(reader.into()).into()
 }
 
 #[unsafe(no_mangle)]
 pub extern "C" fn ext_check_all_ranges_read_and_collected(reader: Reader) -> FlagAnswer
-    ensures { result ≡ check_read_and_collected_call (reader_of reader) }
+    ensures { result ≡ flag_shown (check_read_and_collected_call (reader_of reader)) }
 {
-    reader_offsets::check_all_ranges_read_and_collected(shapes::reader_of(reader))
+    reader_offsets::check_all_ranges_read_and_collected(reader.into()).into()
 }
 
 #[unsafe(no_mangle)]
 pub extern "C" fn ext_all_read_externals_collected(reader: Reader) -> FlagAnswer
-    ensures { result ≡ all_collected_call (reader_of reader) }
+    ensures { result ≡ flag_shown (all_collected_call (reader_of reader)) }
 {
-    reader_offsets::all_read_externals_collected(shapes::reader_of(reader))
+    reader_offsets::all_read_externals_collected(reader.into()).into()
 }
 
 #[unsafe(no_mangle)]
 pub extern "C" fn ext_get_last_range_state_offsets_by_partitions(reader: Reader) -> ByPartitions
-    ensures { result ≡ last_offsets_call (reader_of reader) }
+    ensures { result ≡ by_partitions_shown (last_offsets_call (reader_of reader)) }
 {
-    reader_offsets::get_last_range_state_offsets_by_partitions(shapes::reader_of(reader))
+    reader_offsets::get_last_range_state_offsets_by_partitions(reader.into()).into()
 }
 
 #[unsafe(no_mangle)]
 pub extern "C" fn ext_get_partition_ids(reader: Reader) -> PartitionIds
-    ensures { result ≡ partition_ids_call (reader_of reader) }
+    ensures { result ≡ partition_ids_shown (partition_ids_call (reader_of reader)) }
 {
-    externals_reader::get_partition_ids(shapes::reader_of(reader))
+    externals_reader::get_partition_ids(reader.into()).into()
 }
 
 #[unsafe(no_mangle)]
 pub extern "C" fn ext_create_next_externals_range_state(reader: Reader) -> NextRange
-    ensures { result ≡ next_range_call (reader_of reader) }
+    ensures { result ≡ next_range_shown (next_range_call (reader_of reader)) }
 {
-    externals_reader::create_next_externals_range_state(shapes::reader_of(reader))
+    externals_reader::create_next_externals_range_state(reader.into()).into()
 }
 
 // ---- the reads
 // `refill` is the Rust's mode: Refill, else Continue. The entries take the first `used` bytes of `out`.
+#[tactic(auto, using(reader_offsets::proofs::Numbers::on_refusal, refusals::proofs::Laws::refused_is_not_done), unfolding(crate::specs::Calls::read_all, crate::specs::Shapes::left_reader))]
 #[unsafe(no_mangle)]
 pub extern "C" fn ext_read_into_buffers(
     e: &mut Externals,
@@ -612,11 +653,37 @@ pub extern "C" fn ext_read_into_buffers(
         × (e.new ≡ (read_all_shown e.old.reader (read_all out.old tables.now area.now routes.now refill e.old).answer).state)
         × (out.new ≡ (read_all out.old tables.now area.now routes.now refill e.old).out) }
 {
-    let r = cores::all_read(out, tables, area, routes, refill, *e);
-    *e = r.state;
-    r.answer
+    let mode = shapes::group_mode(refill);
+    let reader = e.reader.into();
+    match externals_reader::read_into_buffers(
+        tables,
+        area,
+        e.transaction,
+        routes,
+        reader,
+        mode,
+        out,
+    ) {
+        Ok(a) => {
+            e.transaction = a.state;
+            e.reader.hold(a.reader);
+            AllAnswer {
+                number: 0,
+                free: a.free.into(),
+                used: a.used,
+                counts: a.counts,
+            }
+        }
+        Err(refusal) => AllAnswer {
+            number: refusal.into(),
+            free: None.into(),
+            used: 0,
+            counts: NO_COUNTS,
+        },
+    }
 }
 
+#[tactic(auto, unfolding(crate::specs::Calls::read_range))]
 #[unsafe(no_mangle)]
 pub extern "C" fn ext_read_externals_into_buffers(
     e: &mut RangeAndCache,
@@ -630,9 +697,45 @@ pub extern "C" fn ext_read_externals_into_buffers(
         × (e.new ≡ (read_range_shown (read_range out.old tables.now area.now routes.now settings e.old).answer).state)
         × (out.new ≡ (read_range out.old tables.now area.now routes.now settings e.old).out) }
 {
-    let r = cores::range_read(out, tables, area, routes, settings, *e);
-    *e = r.state;
-    r.answer
+    let limits = settings.limits;
+    let processed = settings.processed;
+    let asked = range_reader::RangeSettings {
+        shard: settings.shard,
+        limits,
+        processed,
+        timeout: settings.timeout,
+        mode: shapes::range_mode(settings.to_previous),
+    };
+    match range_reader::read_externals_into_buffers(
+        tables,
+        area,
+        e.transaction,
+        routes,
+        asked,
+        e.range,
+        out,
+    ) {
+        Ok(a) => {
+            e.transaction = a.state;
+            e.range = a.range;
+            RangeAnswer {
+                number: 0,
+                free: a.free,
+                last_chain_time: shapes::saved_time(ChainTime(0), a.last_chain_time),
+                pops: a.pops,
+                used: a.used,
+                counts: a.counts,
+            }
+        }
+        Err(refusal) => RangeAnswer {
+            number: refusal.into(),
+            free: 0,
+            last_chain_time: shapes::saved_time(ChainTime(0), None),
+            pops: 0,
+            used: 0,
+            counts: NO_COUNTS,
+        },
+    }
 }
 
 // The free places of a range as it stands, for instance after the host has taken messages.
@@ -641,11 +744,9 @@ pub extern "C" fn ext_get_max_buffers_fill_state(
     limits: BufferLimits,
     range: ExternalsRangeReaderState,
 ) -> FillState
-    ensures { result ≡ fill_state limits.by_partitions range.by_partitions }
+    ensures { result ≡ fill_shown (fill_state limits.by_partitions range.by_partitions) }
 {
-    let by_partitions = limits.by_partitions;
-    let partitions = range.by_partitions;
-    messages_buffer::get_max_buffers_fill_state(by_partitions, partitions)
+    messages_buffer::get_max_buffers_fill_state(limits.by_partitions, range.by_partitions).into()
 }
 
 #[unsafe(no_mangle)]
@@ -654,7 +755,7 @@ pub extern "C" fn ext_has_pending_externals(
     t: AnchorsCacheTransaction,
     reader: Reader,
 ) -> FlagAnswer
-    ensures { result ≡ pending_externals_call tables.now t (reader_of reader) }
+    ensures { result ≡ flag_shown (pending_externals_call tables.now t (reader_of reader)) }
 {
-    reader_offsets::has_pending_externals(tables, t, shapes::reader_of(reader))
+    reader_offsets::has_pending_externals(tables, t, reader.into()).into()
 }

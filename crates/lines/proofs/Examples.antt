@@ -1,20 +1,20 @@
 -- Document 01's example, line by line, with ticket 7's `free`.
+use Rattle.std.specs.Prelude.{None, Some}
 use Prim.Native.Nat.{ℕ}
 use mathlib.Core.Path.{◌≡◌, refl}
 use mathlib.Core.Bool.{true, false}
 use mathlib.Core.List.{[], ◌∷◌}
 use Rattle.rows.specs.Rows.{word, num_at}
 use Rattle.range_rules.specs.declared.ExternalsRangeReaderState.{ExternalsRangeReaderState}
-use Rattle.reader_rules.specs.declared.LastFree.TheVariants.{Nothing, Places}
 use Rattle.text.specs.Shown.{places, decimal, spaced, line}
 use Rattle.lines.specs.Lines.{free_line, entry_line, range_line, end_line}
 
 -- free 0
-pub free_line_lem : free_line (Places 0) ≡ 102 ∷ 114 ∷ 101 ∷ 101 ∷ 32 ∷ 48 ∷ 10 ∷ []
+pub free_line_lem : free_line (Some 0) ≡ 102 ∷ 114 ∷ 101 ∷ 101 ∷ 32 ∷ 48 ∷ 10 ∷ []
 unfolding free_line line spaced decimal places
 free_line_lem = refl
 
-pub no_range_read_has_no_free_line : free_line Nothing ≡ []
+pub no_range_read_has_no_free_line : free_line None ≡ []
 unfolding free_line
 no_range_read_has_no_free_line = refl
 

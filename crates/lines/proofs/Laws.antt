@@ -1,53 +1,42 @@
--- The two cases of the free places; the turns of the loops over entries and ranges: what is left to show after a turn
+-- No free places; the turns of the loops over entries and ranges: what is left to show after a turn
 -- is what was left before it.
-use Prim.Native.Nat.{ℕ, zero, suc, ◌+◌, ◌-◌, ◌≤◌, ◌<◌}
+use Rattle.std.specs.Prelude.{Option, None}
+use Prim.Native.Nat.{ℕ, zero, suc, ◌+◌, ◌<◌}
 use mathlib.Core.Path.{◌≡◌, sym}
-use mathlib.Core.List.{List, [], ◌∷◌}
+use mathlib.Core.List.{List, [], ◌∷◌, ◌++◌}
 use native.Mathlib.Omega.{arith}
-use native.Mathlib.Numerals.{add-one}
-use lib.ListN.{length, take, drop, get_or, length-take, drop_of_length-le}
-use lib.Seq.{drop-cons, get_or-take}
-use Rattle.rows.specs.Rows.{part, rows}
-use Rattle.rows.proofs.Laws.{rows_cons}
+use lib.ListN.{length, take}
+use lib.Seq.{take-nil}
+use Rattle.rows.specs.Rows.{whole_rows}
+use Rattle.rows.proofs.Laws.{whole_cons, whole_none}
 use Rattle.range_rules.specs.declared.ExternalsRangeReaderState.{ExternalsRangeReaderState}
-use Rattle.reader_rules.specs.declared.LastFree.{LastFree}
-use Rattle.reader_rules.specs.declared.LastFree.TheVariants.{Nothing, Places}
-use Rattle.text.specs.Shown.{Text, show, line}
+use Rattle.text.specs.Shown.{Text, show}
 use Rattle.text.proofs.Laws.{show_on, show_nothing}
 use Rattle.lines.specs.Lines.{free_line, entry_line, entry_lines, range_line, range_lines}
 
 -- ---- the free places
-module _ (f : LastFree) (p : Text) where
-  pub free_none : f ≡ Nothing → p ≡ show (free_line f) p
-  unfolding free_line
-  free_none e = rw e (sym (show_nothing p))
-
-  pub free_some : (n : ℕ) (q : Text) → f ≡ Places n → q ≡ show (line (102 ∷ 114 ∷ 101 ∷ 101 ∷ []) (n ∷ [])) p → q ≡ show (free_line f) p
-  unfolding free_line
-  free_some n q e h = rw e h
+pub free_none : (f : Option ℕ) (p : Text) → f ≡ None → p ≡ show (free_line f) p
+unfolding free_line
+free_none f p e = rw e (sym (show_nothing p))
 
 -- ---- the loops
-pub entries_turn : (l : List ℕ) (at left : ℕ) (p q : Text) → 0 < left → q ≡ show (entry_line (take (at + 26 - at) (drop at l))) p
-    → show (entry_lines (rows 26 (left - 1) (drop (at + 26) l))) q ≡ show (entry_lines (rows 26 left (drop at l))) p
+pub entries_turn : (e l m : List ℕ) (p q : Text) → m ≡ e ++ l → length e ≡ 26 → q ≡ show (entry_line e) p → show (entry_lines (whole_rows 26 l)) q ≡ show (entry_lines (whole_rows 26 m)) p
 unfolding entry_lines
-entries_turn l at left p q h e =
-    let w : at + 26 - at ≡ 26 = omega arith in
-    let f : q ≡ show (entry_line (part at 26 l)) p = rw w at e in
-    rw (f, rows_cons 26 left at l h) (show_on (entry_line (part at 26 l)) (entry_lines (rows 26 (left - 1) (drop (at + 26) l))) p)
+entries_turn e l m p q t w h = rw (h, t, whole_cons 26 e l (omega arith) w) (show_on (entry_line e) (entry_lines (whole_rows 26 l)) p)
 
-pub entries_end : (l : List ℕ) (left : ℕ) (p : Text) → left ≤ 0 → show (entry_lines (rows 26 left l)) p ≡ p
-unfolding rows entry_lines
-entries_end l zero p h = show_nothing p
-entries_end l (suc left) p h = absurd (omega arith)
+pub entries_end : (l : List ℕ) (p : Text) → length l < 26 → show (entry_lines (whole_rows 26 l)) p ≡ p
+unfolding entry_lines
+entries_end l p h = rw (whole_none 26 l h) (show_nothing p)
 
-module _ (len : ℕ) (l : List ExternalsRangeReaderState) (i : ℕ) where
-  pub ranges_turn : (d : ExternalsRangeReaderState) (p q : Text) → i < len → i < length l → q ≡ show (range_line (get_or l i d)) p
-      → show (range_lines (drop (i + 1) (take len l))) q ≡ show (range_lines (drop i (take len l))) p
-  unfolding range_lines
-  ranges_turn d p q h k e =
-      let m : i < length (take len l) = simp length-take (omega arith) in
-      rw (e, add-one i, drop-cons (take len l) i d m, get_or-take len l i d h) (show_on (range_line (get_or l i d)) (range_lines (drop (suc i) (take len l))) p)
+pub ranges_turn : (r : ExternalsRangeReaderState) (l m : List ExternalsRangeReaderState) (k n : ℕ) (p q : Text) → m ≡ r ∷ l → k + 1 ≡ n → q ≡ show (range_line r) p
+    → show (range_lines (take k l)) q ≡ show (range_lines (take n m)) p
+unfolding range_lines
+ranges_turn r l m k n p q t f h =
+    let e : n ≡ suc k = omega arith in
+    rw (h, t, e) (show_on (range_line r) (range_lines (take k l)) p)
 
-  pub ranges_end : (p : Text) → length (take len l) ≤ i → show (range_lines (drop i (take len l))) p ≡ p
-  unfolding range_lines
-  ranges_end p h = rw (drop_of_length-le (take len l) h) (show_nothing p)
+pub ranges_end : (l : List ExternalsRangeReaderState) (n : ℕ) (p : Text) → (0 < n → length l ≡ 0) → show (range_lines (take n l)) p ≡ p
+unfolding range_lines
+ranges_end [] n p h = rw (take-nil {A = ExternalsRangeReaderState} n) (show_nothing p)
+ranges_end (r ∷ l) zero p h = show_nothing p
+ranges_end (r ∷ l) (suc n) p h = absurd (let e = h (omega arith) in omega arith)

@@ -1,4 +1,5 @@
 -- How long the lines are.
+use Rattle.std.specs.Prelude.{Option, None, Some}
 use Prim.Native.Nat.{ℕ, ◌*◌, ◌≤◌}
 use mathlib.Core.List.{List, [], ◌∷◌}
 use native.Mathlib.Omega.{arith}
@@ -6,15 +7,13 @@ use lib.ListN.{length, length-append}
 use Rattle.rows.specs.Rows.{pick, num_at}
 use Rattle.anchors_cache.specs.declared.AnchorsCache.{AnchorsCache}
 use Rattle.range_rules.specs.declared.ExternalsRangeReaderState.{ExternalsRangeReaderState}
-use Rattle.reader_rules.specs.declared.LastFree.{LastFree}
-use Rattle.reader_rules.specs.declared.LastFree.TheVariants.{Nothing, Places}
 use Rattle.text.proofs.Lengths.{line_length}
 use Rattle.lines.specs.Lines.{free_line, entry_line, entry_lines, range_line, range_lines, bad_line, end_line}
 
-pub free_line_length : (f : LastFree) → length (free_line f) ≤ 26
+pub free_line_length : (f : Option ℕ) → length (free_line f) ≤ 26
 unfolding free_line
-free_line_length Nothing = omega arith
-free_line_length (Places n) = line_length (102 ∷ 114 ∷ 101 ∷ 101 ∷ []) (n ∷ [])
+free_line_length None = omega arith
+free_line_length (Some n) = line_length (102 ∷ 114 ∷ 101 ∷ 101 ∷ []) (n ∷ [])
 
 pub entry_line_length : (e : List ℕ) → length (entry_line e) ≤ 109
 unfolding entry_line

@@ -1,17 +1,15 @@
 -- The text of document 01's lines ("Session program"), and of ticket 7's `free`.
-use Rattle.std.specs.Prelude.{ℕ, List, [], ◌∷◌, ◌++◌}
+use Rattle.std.specs.Prelude.{ℕ, List, [], ◌∷◌, ◌++◌, Option, None, Some}
 use Rattle.rows.specs.Rows.{pick, num_at}
 use Rattle.anchors_cache.specs.declared.AnchorsCache.{AnchorsCache}
 use Rattle.range_rules.specs.declared.ExternalsRangeReaderState.{ExternalsRangeReaderState}
-use Rattle.reader_rules.specs.declared.LastFree.{LastFree}
-use Rattle.reader_rules.specs.declared.LastFree.TheVariants.{Nothing, Places}
 use Rattle.text.specs.Shown.{line}
 
 -- `free`, of document 02's ticket 7: the free places that the last range read reported; "is left out if no range was
 -- read"
-unfoldable pub free_line : LastFree → List ℕ
-free_line Nothing = []
-free_line (Places n) = line (102 ∷ 114 ∷ 101 ∷ 101 ∷ []) (n ∷ [])
+unfoldable pub free_line : Option ℕ → List ℕ
+free_line None = []
+free_line (Some n) = line (102 ∷ 114 ∷ 101 ∷ 101 ∷ []) (n ∷ [])
 
 -- `add`: an output entry's fields
 unfoldable pub entry_line : List ℕ → List ℕ

@@ -1,22 +1,28 @@
 -- Laws of free places: the smallest over a range's partitions, full buffers, and one message more in a buffer.
-use Prim.Native.Nat.{ℕ, suc, zero, ◌+◌, ◌-◌, ◌≤◌, ◌<◌}
+use Prim.Native.Nat.{ℕ, min, suc, zero, ◌+◌, ◌-◌, ◌≤◌, ◌<◌}
 use mathlib.Core.Path.{◌≡◌, refl, sym, ap, ◌∙◌}
 use mathlib.Core.Bool.{Bool, true, false, not, ◌&&◌, ◌||◌}
 use mathlib.Core.List.{List, [], ◌∷◌}
 use mathlib.Core.Logic.{◌⊎◌, inl, inr}
 use native.Mathlib.Omega.{arith}
-use native.Mathlib.Numerals.{add-one}
 use lib.Dec.{eqb, leb, ltb}
-use lib.ListN.{length, get_or, drop, set, drop_of_length-le}
-use lib.Seq.{drop-cons}
+use lib.ListN.{length, get_or, set}
+use Rattle.std.specs.List.{fold, zip}
 use borrow.Author.Tests.{ne_eqb, eq-eqb, eqb-true, eqb-false, leb-true, leb-false, ltb-true, ltb-false}
 use Rattle.rows.specs.Rows.{pick}
 use Rattle.rows.proofs.Laws.{pick_yes, pick_no}
 use Rattle.messages_buffer.specs.declared.ExternalsPartitionRangeReaderState.{ExternalsPartitionRangeReaderState}
-use Rattle.messages_buffer.specs.Fullness.{buffer_cap, no_partition, no_buffer, one_more, every, Buffer, buffers, has_room, free_in, is_full, least, with_free, smallest, range_free}
-use Rattle.messages_buffer.proofs.Laws.{buffers_at, buffers_length}
+use Rattle.messages_buffer.specs.Fullness.{buffer_cap, no_partition, one_more, every, Buffer, buffers, has_room, free_in, is_full, least, with_free, smallest, range_free}
 
 -- ---- the smaller of two
+-- as `min` answers
+pub min_is_least : (a b : ℕ) → min a b ≡ least a b
+min_is_least a b = go (ltb b a) refl
+  where
+    go : (t : Bool) → ltb b a ≡ t → min a b ≡ pick t b a
+    go true h = let g = ltb-true b a h in omega arith
+    go false h = let g = ltb-false b a h in omega arith
+
 least_left : (a b : ℕ) → least a b ≤ a
 least_left a b = go (ltb b a) refl
   where
@@ -101,26 +107,20 @@ smallest_within (b ∷ l) =
     let g = with_free_within b.limit b.partition (smallest l) in
     omega arith
 
-module _ (ls : List ℕ) (ps : List ExternalsPartitionRangeReaderState) where
-  pub free_start : least buffer_cap (smallest (buffers ls ps)) ≡ range_free ls ps
-  unfolding range_free
-  free_start = least_of_more buffer_cap (smallest (buffers ls ps)) (smallest_within (buffers ls ps))
+-- the fold over the two tables zipped
+folded : (ls : List ℕ) (ps : List ExternalsPartitionRangeReaderState) (n : ℕ) → n ≤ buffer_cap → fold (λ m q. with_free q.0 q.1 m) n (zip ls ps) ≡ least n (smallest (buffers ls ps))
+unfolding buffers smallest
+folded [] ps n h = sym (least_turn n buffer_cap ∙ least_of_more buffer_cap n h)
+folded (l ∷ ls) [] n h = sym (least_turn n buffer_cap ∙ least_of_more buffer_cap n h)
+folded (l ∷ ls) (p ∷ ps) n h =
+    let rest = smallest (buffers ls ps) in
+    let w = with_free_within l p n in
+    folded ls ps (with_free l p n) (omega arith)
+    ∙ (sym (with_fewer l p n rest) ∙ (ap (with_free l p) (least_turn n rest) ∙ (with_fewer l p rest n ∙ least_turn (with_free l p rest) n)))
 
-  module _ (same : length ls ≡ length ps) where
-    pub free_next : (i n : ℕ) → i < length ls → least n (smallest (drop i (buffers ls ps))) ≡ least (with_free (get_or ls i 0) (get_or ps i no_partition) n) (smallest (drop (i + 1) (buffers ls ps)))
-    unfolding smallest
-    free_next i n h =
-        let k : i < length (buffers ls ps) = rw (buffers_length ls ps same) h in
-        let rest = smallest (drop (suc i) (buffers ls ps)) in
-        rw (add-one i, drop-cons (buffers ls ps) i no_buffer k, buffers_at ls ps i no_buffer h (omega arith))
-        (least_turn n (with_free (get_or ls i 0) (get_or ps i no_partition) rest) ∙ (sym (with_fewer (get_or ls i 0) (get_or ps i no_partition) rest n)
-        ∙ (ap (with_free (get_or ls i 0) (get_or ps i no_partition)) (least_turn rest n) ∙ with_fewer (get_or ls i 0) (get_or ps i no_partition) n rest)))
-
-    pub free_end : (i n : ℕ) → length ls ≤ i → n ≤ buffer_cap → least n (smallest (drop i (buffers ls ps))) ≡ n
-    unfolding smallest
-    free_end i n h g =
-        let k : length (buffers ls ps) ≤ i = rw (buffers_length ls ps same) h in
-        rw (drop_of_length-le (buffers ls ps) k) (least_turn n buffer_cap ∙ least_of_more buffer_cap n g)
+pub free_of_all : (ls : List ℕ) (ps : List ExternalsPartitionRangeReaderState) → fold (λ m q. with_free q.0 q.1 m) buffer_cap (zip ls ps) ≡ range_free ls ps
+unfolding range_free
+free_of_all ls ps = folded ls ps buffer_cap (omega arith) ∙ least_of_more buffer_cap (smallest (buffers ls ps)) (smallest_within (buffers ls ps))
 
 -- ---- document 01: "A buffer is full at count at least its limit. Any full buffer of a range stops that range."
 pub full_at_count_at_least_its_limit : (count limit : ℕ) → is_full count limit ≡ leb limit count

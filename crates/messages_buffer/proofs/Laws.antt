@@ -1,34 +1,23 @@
 -- Laws of tables by index, of the questions about them, and of what a changed record keeps.
-use Prim.Native.Nat.{ℕ, suc, zero, ◌+◌, ◌≤◌, ◌<◌}
+use Prim.Native.Nat.{ℕ, suc, zero, ◌≤◌, ◌<◌}
 use mathlib.Core.Path.{◌≡◌, refl, sym, ap, ◌∙◌}
 use mathlib.Core.Bool.{Bool, true, false, not, ◌&&◌, ◌||◌}
 use mathlib.Core.List.{List, [], ◌∷◌}
 use native.Mathlib.Omega.{arith}
-use native.Mathlib.Numerals.{add-one}
 use lib.Dec.{eqb, leb}
-use lib.ListN.{length, get_or, drop, set, drop_of_length-le}
-use lib.Seq.{drop-cons}
+use lib.ListN.{length, get_or, set}
+use Rattle.std.specs.List.{list_all, zip}
 use borrow.Author.Tests.{ne_eqb, not-true, leb-true, le-leb}
 use Rattle.rows.specs.Rows.{pick}
 use Rattle.rows.proofs.Laws.{and_true, pick_yes, pick_no, yes_later, or_later}
 use Rattle.messages_buffer.specs.declared.ExternalsPartitionRangeReaderState.{ExternalsPartitionRangeReaderState}
 use Rattle.messages_buffer.specs.Fullness.{buffer_cap, no_limit, no_partition, no_buffer, limit_fits, count_fits, has_limit, every, Buffer, buffers, limited, range_free, limits_number, partitions_number, limited_number, first_no, fill_number, fill_state, all_limited}
 
--- ---- one test of each element of a table, by index
-module _ {A : Type 0} (f : A → Bool) (d : A) (l : List A) where
-  every_step : (i : ℕ) → i < length l → every f (drop i l) ≡ f (get_or l i d) && every f (drop (i + 1) l)
-  unfolding every
-  every_step i h = rw (add-one i, drop-cons l i d h)
-
-  pub every_fail : (i : ℕ) → i < length l → f (get_or l i d) ≡ false → every f (drop i l) ≡ false
-  every_fail i h e = rw (every_step i h, e)
-
-  pub every_next : (i : ℕ) → i < length l → f (get_or l i d) ≡ true → every f (drop (i + 1) l) ≡ every f (drop i l)
-  every_next i h e = rw (every_step i h, e)
-
-  pub every_end : (i : ℕ) → length l ≤ i → every f (drop i l) ≡ true
-  unfolding every
-  every_end i h = rw (drop_of_length-le l h)
+-- ---- one test of each element of a table
+pub all_is_every : {A : Type 0} (f : A → Bool) (l : List A) → list_all f l ≡ every f l
+unfolding every
+all_is_every f [] = refl
+all_is_every f (x ∷ l) = ap (λ (b : Bool). f x && b) (all_is_every f l)
 
 every_each : {A : Type 0} (f : A → Bool) (d : A) (l : List A) → every f l ≡ true → (i : ℕ) → i < length l → f (get_or l i d) ≡ true
 unfolding every
@@ -64,21 +53,22 @@ buffers_set (l ∷ ls) [] i r h = refl
 buffers_set (l ∷ ls) (p ∷ ps) zero r h = refl
 buffers_set (l ∷ ls) (p ∷ ps) (suc i) r h = ap (λ (m : List Buffer). record { limit = l; partition = p } ∷ m) (buffers_set ls ps i r (omega arith))
 
+abbrev pub beside : ℕ × ExternalsPartitionRangeReaderState → Buffer
+beside q = record { limit = q.0; partition = q.1 }
+
+-- the two tables zipped
+pub all_buffers : (f : Buffer → Bool) (ls : List ℕ) (ps : List ExternalsPartitionRangeReaderState) → list_all (λ q. f (beside q)) (zip ls ps) ≡ every f (buffers ls ps)
+unfolding buffers every
+all_buffers f [] ps = refl
+all_buffers f (l ∷ ls) [] = refl
+all_buffers f (l ∷ ls) (p ∷ ps) = ap (λ (b : Bool). f (beside (l, p)) && b) (all_buffers f ls ps)
+
 module _ (f : Buffer → Bool) (ls : List ℕ) (ps : List ExternalsPartitionRangeReaderState) (same : length ls ≡ length ps) where
   test_at : (i : ℕ) → i < length ls → f (get_or (buffers ls ps) i no_buffer) ≡ f (record { limit = get_or ls i 0; partition = get_or ps i no_partition })
   test_at i h = ap f (buffers_at ls ps i no_buffer h (omega arith))
 
   inside : (i : ℕ) → i < length ls → i < length (buffers ls ps)
   inside i h = rw (buffers_length ls ps same) h
-
-  pub buffers_fail : (i : ℕ) → i < length ls → f (record { limit = get_or ls i 0; partition = get_or ps i no_partition }) ≡ false → every f (drop i (buffers ls ps)) ≡ false
-  buffers_fail i h e = every_fail f no_buffer (buffers ls ps) i (inside i h) (test_at i h ∙ e)
-
-  pub buffers_next : (i : ℕ) → i < length ls → f (record { limit = get_or ls i 0; partition = get_or ps i no_partition }) ≡ true → every f (drop (i + 1) (buffers ls ps)) ≡ every f (drop i (buffers ls ps))
-  buffers_next i h e = every_next f no_buffer (buffers ls ps) i (inside i h) (test_at i h ∙ e)
-
-  pub buffers_end : (i : ℕ) → length ls ≤ i → every f (drop i (buffers ls ps)) ≡ true
-  buffers_end i h = every_end f no_buffer (buffers ls ps) i (rw (buffers_length ls ps same) h)
 
   buffers_each : every f (buffers ls ps) ≡ true → (i : ℕ) → i < length ls → f (record { limit = get_or ls i 0; partition = get_or ps i no_partition }) ≡ true
   buffers_each e i h = sym (test_at i h) ∙ every_each f no_buffer (buffers ls ps) e i (inside i h)

@@ -1,8 +1,9 @@
 -- Free places of buffers, and the questions that come before them.
-use Rattle.std.specs.Prelude.{ℕ, zero, suc, ◌+◌, ◌-◌, Bool, true, false, not, ◌&&◌, ◌||◌, List, [], ◌∷◌, ltb, leb, eqb}
+use Rattle.std.specs.Prelude.{ℕ, zero, suc, ◌+◌, ◌-◌, Bool, true, false, not, ◌&&◌, ◌||◌, List, [], ◌∷◌, ltb, leb, eqb, Result, Ok, Err}
 use Rattle.rows.specs.Rows.{pick}
 use Rattle.messages_buffer.specs.declared.ExternalsPartitionRangeReaderState.{ExternalsPartitionRangeReaderState}
-use Rattle.messages_buffer.specs.declared.FillState.{FillState}
+use Rattle.refusals.specs.declared.Refusal.{Refusal}
+use Rattle.refusals.specs.Refusals.{number_of}
 
 -- Document 02, ticket 7, free places: "limit less count, or 0 when the count is at or above the limit"
 unfoldable pub free_in : ℕ → ℕ → ℕ
@@ -106,7 +107,15 @@ first_no (suc n ∷ l) = suc n
 unfoldable pub fill_number : List ℕ → List ExternalsPartitionRangeReaderState → ℕ
 fill_number limits partitions = first_no (limits_number limits ∷ partitions_number partitions ∷ limited_number limits partitions ∷ [])
 
--- what the range check answers
+-- what the range check answers: number 0 and the fewest free places, or the number of the first question answered "no"
+pub record FillState : Type 0 where
+  pub number : ℕ
+  pub free : ℕ
+
+abbrev pub answer_of : Result ℕ Refusal → FillState
+answer_of (Ok free) = record { number = 0; free = free }
+answer_of (Err r) = record { number = number_of r; free = 0 }
+
 unfoldable pub fill_state : List ℕ → List ExternalsPartitionRangeReaderState → FillState
 fill_state limits partitions = record {
   number = fill_number limits partitions;

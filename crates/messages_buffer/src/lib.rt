@@ -3,7 +3,10 @@
 #![tactic(auto)]
 
 ghost use Rattle.std.specs.Prelude.{◌≡◌};
-ghost use Rattle.messages_buffer.specs.Fullness.{free_in, least, with_free, limit_fits, count_fits, has_limit, limits_number, partitions_number, all_limited, range_free, fill_state};
+ghost use Rattle.refusals.specs.Refusals.{number};
+ghost use Rattle.messages_buffer.specs.Fullness.{free_in, with_free, limit_fits, count_fits, has_limit, limits_number, partitions_number, all_limited, range_free, answer_of, fill_state};
+
+use refusals::Refusal;
 
 // The most that a buffer's count or limit may be.
 pub const BUFFER_CAP: u32 = 1024;
@@ -13,7 +16,7 @@ pub const NO_LIMIT: u16 = 65535;
 
 // One partition's record in a range. Where it is not present its numbers are free.
 #[repr(C)]
-#[derive(Clone, Copy)]
+#[derive(Clone, Copy, Debug, PartialEq, Eq)]
 pub struct ExternalsPartitionRangeReaderState {
     pub count: u32,
     pub skip_offset: u32,
@@ -29,61 +32,29 @@ pub const NO_PARTITION: ExternalsPartitionRangeReaderState = ExternalsPartitionR
     present: false,
 };
 
-// Number 0 and the fewest free places of a buffer of the range, or the number of the question that was answered "no".
-#[repr(C)]
-#[derive(Clone, Copy)]
-pub struct FillState {
-    pub number: u8,
-    pub free: u16,
-}
-
 // How many messages more one buffer takes: 0 where it is full.
 pub fn check_is_filled(count: u32, limit: u16) -> u16
     ensures { result ≡ free_in count limit }
 {
-    let most = limit as u32;
-    if most <= count {
-        return 0;
-    }
-    (most - count) as u16
-}
-
-// The smaller of two numbers of free places.
-pub fn least(a: u16, b: u16) -> u16
-    ensures { result ≡ least a b }
-{
-    if b < a {
-        return b;
-    }
-    a
+    u32::from(limit).saturating_sub(count) as u16
 }
 
 fn limit_fits(limit: u16) -> bool
     ensures { result ≡ limit_fits limit }
 {
-    if limit == NO_LIMIT {
-        return true;
-    }
-    let most = limit as u32;
-    most <= BUFFER_CAP
+    limit == NO_LIMIT || u32::from(limit) <= BUFFER_CAP
 }
 
 fn count_fits(partition: ExternalsPartitionRangeReaderState) -> bool
     ensures { result ≡ count_fits partition }
 {
-    if !partition.present {
-        return true;
-    }
-    partition.count <= BUFFER_CAP
+    !partition.present || partition.count <= BUFFER_CAP
 }
 
 fn has_limit(limit: u16, partition: ExternalsPartitionRangeReaderState) -> bool
     ensures { result ≡ has_limit limit partition }
 {
-    if !partition.present {
-        return true;
-    }
-    limit != NO_LIMIT
+    !partition.present || limit != NO_LIMIT
 }
 
 // The fewest so far, with one partition more; an absent one has no buffer.
@@ -93,94 +64,58 @@ fn with_free(limit: u16, partition: ExternalsPartitionRangeReaderState, free: u1
     if !partition.present {
         return free;
     }
-    least(free, check_is_filled(partition.count, limit))
+    free.min(check_is_filled(partition.count, limit))
 }
 
-// Question 4 of the limits: 0 or 4.
-pub fn check_limits(limits: [u16; 8]) -> u8
-    ensures { result ≡ limits_number limits }
+// Question 4 of the limits.
+pub fn check_limits(limits: [u16; 8]) -> Result<(), Refusal>
+    ensures { number result ≡ limits_number limits }
 {
-    let mut i = 0;
-    while i < 8 {
-        if !limit_fits(limits[i]) {
-            return 4;
-        }
-        i += 1;
+    if !limits.iter().all(|limit| limit_fits(*limit)) {
+        return Err(Refusal::LimitTooHigh);
     }
-    0
+    Ok(())
 }
 
-// Question 5 of a range's partitions: 0 or 5.
-pub fn check_partitions(partitions: [ExternalsPartitionRangeReaderState; 8]) -> u8
-    ensures { result ≡ partitions_number partitions }
+// Question 5 of a range's partitions.
+pub fn check_partitions(partitions: [ExternalsPartitionRangeReaderState; 8]) -> Result<(), Refusal>
+    ensures { number result ≡ partitions_number partitions }
 {
-    let mut i = 0;
-    while i < 8 {
-        let p = partitions[i];
-        if !count_fits(p) {
-            return 5;
-        }
-        i += 1;
+    if !partitions.iter().all(|partition| count_fits(*partition)) {
+        return Err(Refusal::StateUnsound);
     }
-    0
+    Ok(())
 }
 
 fn all_limited(limits: [u16; 8], partitions: [ExternalsPartitionRangeReaderState; 8]) -> bool
     ensures { result ≡ all_limited limits partitions }
 {
-    let mut i = 0;
-    while i < 8 {
-        let p = partitions[i];
-        if !has_limit(limits[i], p) {
-            return false;
-        }
-        i += 1;
-    }
-    true
+    limits
+        .iter()
+        .zip(&partitions)
+        .all(|(limit, partition)| has_limit(*limit, *partition))
 }
 
 fn range_free(limits: [u16; 8], partitions: [ExternalsPartitionRangeReaderState; 8]) -> u16
     ensures { result ≡ range_free limits partitions }
 {
-    let mut free = BUFFER_CAP as u16;
-    let mut i = 0;
-    while i < 8 {
-        let p = partitions[i];
-        free = with_free(limits[i], p, free);
-        i += 1;
-    }
-    free
+    limits.iter().zip(&partitions).fold(
+        BUFFER_CAP as u16,
+        |free, (limit, partition)| with_free(*limit, *partition, free),
+    )
 }
 
 // The fewest free places of a range's buffers, 1,024 where it has none; questions 4, 5 and 10 come first.
 pub fn get_max_buffers_fill_state(
     limits: [u16; 8],
     partitions: [ExternalsPartitionRangeReaderState; 8],
-) -> FillState
-    ensures { result ≡ fill_state limits partitions }
+) -> Result<u16, Refusal>
+    ensures { answer_of result ≡ fill_state limits partitions }
 {
-    let of_limits = check_limits(limits);
-    if of_limits != 0 {
-        return FillState {
-            number: of_limits,
-            free: 0,
-        };
-    }
-    let of_partitions = check_partitions(partitions);
-    if of_partitions != 0 {
-        return FillState {
-            number: of_partitions,
-            free: 0,
-        };
-    }
+    check_limits(limits)?;
+    check_partitions(partitions)?;
     if !all_limited(limits, partitions) {
-        return FillState {
-            number: 10,
-            free: 0,
-        };
+        return Err(Refusal::LimitMissing);
     }
-    FillState {
-        number: 0,
-        free: range_free(limits, partitions),
-    }
+    Ok(range_free(limits, partitions))
 }

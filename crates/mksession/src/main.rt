@@ -1,110 +1,100 @@
 // Sessions as text, one record a line, turned into the records' bytes (README.md).
 #![tactic(auto)]
 
-mod fields;
 mod forms;
 mod lines;
-mod numbers;
+mod record;
+mod refused;
+mod values;
 mod words;
 
-use streams::Input;
+use arrayvec::ArrayVec;
+use record::Record;
+use refused::{Reason, Refused};
+use std::io;
 
-// `number` is that of the line being read, `length` how many of its bytes are there; the text read goes on from `at` to
-// `end`.
-#[derive(Clone, Copy)]
-struct Run {
+// What ends the run early: a line was refused, which standard error has been told, or a record can't be written.
+#[derive(Clone, Copy, Debug)]
+struct Stopped;
+
+impl From<io::Error> for Stopped {
+    fn from(_: io::Error) -> Self {
+        Stopped
+    }
+}
+
+fn refuse(rt: &HostRuntime, line: u64, refused: Refused) -> Stopped {
+    let _ = refused.tell(&mut rt.stderr(), line);
+    Stopped
+}
+
+// The most bytes that a line has.
+const LINE: usize = 65_536;
+
+// The line being read, with its number, and the record that is made of it.
+#[derive(Drop)]
+struct Maker {
     number: u64,
-    length: usize,
-    at: usize,
-    end: usize,
-    stopped: bool,
+    line: ArrayVec<u8, LINE>,
+    record: Record,
 }
 
-fn end_line(rt: &HostRuntime, run: Run, line: &[u8; 65536], out: &mut [u8; 131072]) -> Run {
-    let mut next = run;
-    next.stopped = !lines::line(rt, line, run.length, run.number, out);
-    next.number = std::num::wrapping_add_u64(run.number, 1);
-    next.length = 0;
-    next
-}
-
-fn take_byte(
-    rt: &HostRuntime,
-    run: Run,
-    b: u8,
-    line: &mut [u8; 65536],
-    out: &mut [u8; 131072],
-) -> Run {
-    if b == b'\n' {
-        return end_line(rt, run, line, out);
-    }
-    let n = run.length;
-    let mut next = run;
-    if 65536 <= n {
-        next.stopped = !lines::refused(run.number, forms::LONG_LINE, b"");
-        return next;
-    }
-    line[n] = b;
-    next.length = n + 1;
-    next
-}
-
-// More of the text. The last line may lack its end; where the text can't be read, there is no last line.
-fn read_some(
-    rt: &HostRuntime,
-    run: Run,
-    text: &mut [u8; 65536],
-    line: &[u8; 65536],
-    out: &mut [u8; 131072],
-) -> Run {
-    let input = streams::read(&mut rt.stdin(), text);
-    let mut next = run;
-    match input {
-        Input::Bytes(n) => {
-            next.at = 0;
-            next.end = n;
-            return next;
-        }
-        Input::End => next = end_line(rt, run, line, out),
-        Input::Failed => {
-            lines::refused(run.number, forms::UNREAD, b"");
+impl Maker {
+    fn new() -> Self {
+        Maker {
+            number: 1,
+            line: ArrayVec::new(),
+            record: Record::new(),
         }
     }
-    next.stopped = true;
-    next
-}
 
-fn turn(
-    rt: &HostRuntime,
-    run: Run,
-    text: &mut [u8; 65536],
-    line: &mut [u8; 65536],
-    out: &mut [u8; 131072],
-) -> Run {
-    let at = run.at;
-    if at < run.end {
-        let mut next = run;
-        next.at = at + 1;
-        return take_byte(rt, next, rows::byte_at(text, at), line, out);
+    // Its record is written at once.
+    fn end_line(&mut self, rt: &HostRuntime) -> Result<(), Stopped> {
+        lines::make(&self.line, &mut self.record).map_err(|refused| refuse(
+            rt,
+            self.number,
+            refused,
+        ))?;
+        streams::write_all(&mut rt.stdout(), self.record.bytes())?;
+        self.line.clear();
+        self.number = self.number.wrapping_add(1);
+        Ok(())
     }
-    read_some(rt, run, text, line, out)
+
+    fn lengthen(&mut self, rt: &HostRuntime, part: &[u8]) -> Result<(), Stopped> {
+        self.line
+            .try_extend_from_slice(part)
+            .map_err(|_| refuse(rt, self.number, Reason::LongLine.of(b"")))
+    }
+
+    fn take(&mut self, rt: &HostRuntime, text: &[u8]) -> Result<(), Stopped> {
+        let mut parts = text.split(|b| *b == b'\n');
+        if let Some(part) = parts.next() {
+            self.lengthen(rt, part)?;
+        }
+        for part in parts {
+            self.end_line(rt)?;
+            self.lengthen(rt, part)?;
+        }
+        Ok(())
+    }
 }
 
-fn main(rt: HostRuntime) {
-    let mut text = [0u8; 65536];
-    let mut line = [0u8; 65536];
-    let mut out = [0u8; 131072];
-    let mut run = Run {
-        number: 1,
-        length: 0,
-        at: 0,
-        end: 0,
-        stopped: false,
-    };
+// The last line may lack its end; where the text can't be read, there is no last line.
+fn run(rt: &HostRuntime) -> Result<(), Stopped> {
+    let mut maker = Maker::new();
+    let mut text = [0u8; LINE];
     for _ in 0..u64::MAX {
-        run = turn(&rt, run, &mut text, &mut line, &mut out);
-        if run.stopped {
-            return;
+        match streams::read(&mut rt.stdin(), &mut text) {
+            Ok(Some(n)) => maker.take(rt, &text[..n])?,
+            Ok(None) => return maker.end_line(rt),
+            Err(_) => return Err(refuse(rt, maker.number, Reason::Unread.of(b""))),
         }
     }
+    Ok(())
+}
+
+// The exit status is 0 also where the run ends early.
+fn main(rt: HostRuntime) {
+    let _ = run(&rt);
 }

@@ -4,25 +4,13 @@
 
 ghost use Rattle.text.specs.Shown.{Puts};
 
-use anchors_cache::{AnchorsCacheTransaction, FoundInfo};
+use anchors_cache::{AnchorsCacheTransaction, Authored};
 use ext_types::{ChainTime, ExternalKey};
 
 pub mod given;
 pub mod shown;
 
-fn put_info(out: &mut [u8], at: usize, info: FoundInfo) -> usize
-    ensures { Puts (record { at = at; bytes = out.old }) (record { at = result; bytes = out.new }) }
-{
-    let FoundInfo::Info(e) = info else {
-        return text::put(out, at, b"at_ct none\n");
-    };
-    let time = e.ct;
-    let all = e.all_exts_count as u64;
-    let ours = e.our_exts_count as u64;
-    text::put_line(out, at, b"at_ct", &[e.id as u64, time.0, all, ours])
-}
-
-// The last entry imported up to a chain time.
+// The last entry imported up to a chain time; none where the call is refused.
 pub fn put_info_at(
     out: &mut [u8],
     at: usize,
@@ -32,13 +20,21 @@ pub fn put_info_at(
 ) -> usize
     ensures { Puts (record { at = at; bytes = out.old }) (record { at = result; bytes = out.new }) }
 {
-    let time = ChainTime(ct);
-    let answer = anchors_cache::last_imported_anchor_info_at_ct(tables, t, time);
-    let info = answer.info;
-    put_info(out, at, info)
+    match anchors_cache::last_imported_anchor_info_at_ct(tables, t, ChainTime(ct)) {
+        Ok(Some(Authored { value: info, .. })) => {
+            let numbers = [
+                u64::from(info.id),
+                info.ct.0,
+                u64::from(info.all_exts_count),
+                u64::from(info.our_exts_count),
+            ];
+            text::put_line(out, at, b"at_ct", &numbers)
+        }
+        _ => text::put(out, at, b"at_ct none\n"),
+    }
 }
 
-// Whether externals are pending up to the key in a payload.
+// Whether externals are pending up to the key in a payload; a refused call says no.
 pub fn put_in_range(
     out: &mut [u8],
     at: usize,
@@ -49,9 +45,11 @@ pub fn put_in_range(
     ensures { Puts (record { at = at; bytes = out.old }) (record { at = result; bytes = out.new }) }
 {
     let key = ExternalKey {
-        anchor_id: rows::u32_at(p, 0),
-        msgs_offset: rows::u64_at(p, 4),
+        anchor_id: rows::num_at(p, 0),
+        msgs_offset: rows::num_at(p, 4),
     };
-    let answer = anchors_cache::check_has_pending_externals_in_range(tables, t, key);
-    text::put_line(out, at, b"in_range", &[answer.flag as u64])
+    let is_pending = anchors_cache::check_has_pending_externals_in_range(tables, t, key).unwrap_or(
+        false,
+    );
+    text::put_line(out, at, b"in_range", &[u64::from(is_pending)])
 }

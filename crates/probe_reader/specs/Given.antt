@@ -1,15 +1,15 @@
 -- What is put without a call: the last chain time of a payload, and what of a state is another then.
-use Rattle.std.specs.Prelude.{ℕ, List, eqb, get_or}
+use Rattle.ext_types.specs.declared.ChainTime.{ChainTime}
+use Rattle.std.specs.Prelude.{ℕ, List, eqb, get_or, Option, None, Some}
 use Rattle.rows.specs.Rows.{pick, num_at}
+use Rattle.ext_types.specs.declared.ChainTime.{ChainTime}
 use Rattle.anchors_cache.specs.Calls.{time_of}
-use Rattle.range_rules.specs.declared.LastChainTime.{LastChainTime}
-use Rattle.range_rules.specs.declared.LastChainTime.TheVariants.{Time, Nothing}
 use Rattle.reader_rules.specs.declared.ExternalsReaderState.{ExternalsReaderState}
 use Rattle.reader_rules.specs.declared.ExternalsPartitionReaderState.{ExternalsPartitionReaderState}
 
 -- present 1 at 1, value 8 at 2
-unfoldable pub last_of : List ℕ → LastChainTime
-last_of p = pick (eqb (get_or p 1 0) 1) (Time (time_of (num_at 8 2 p))) Nothing
+unfoldable pub last_of : List ℕ → Option ChainTime
+last_of p = pick (eqb (get_or p 1 0) 1) (Some (time_of (num_at 8 2 p))) None
 
 -- a state with other partitions: nothing else is another
 abbrev pub with_partitions : ExternalsReaderState → List ExternalsPartitionReaderState → ExternalsReaderState

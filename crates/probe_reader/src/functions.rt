@@ -1,9 +1,9 @@
 // The reader's calls of a function record: which 1, partition 1, flag 1.
 ghost use Rattle.text.specs.Shown.{Puts};
 
-use anchors_cache::{AnchorsCacheTransaction, FlagAnswer};
-use externals_reader::ReaderDone;
-use reader_rules::{ByPartitions, ExternalsReader};
+use anchors_cache::AnchorsCacheTransaction;
+use reader_rules::ExternalsReader;
+use refusals::Refusal;
 
 // The reader after a call, and the place behind the text.
 #[derive(Clone, Copy)]
@@ -12,166 +12,156 @@ pub struct Called {
     pub at: usize,
 }
 
-// The calls' names one after the other, as a record numbers them, from 1.
-const NAMES: [u8; 639] =
-    *b"finalizeopen_ranges_limit_reachedhas_non_zero_processed_offsetlast_range_offset_reached\
-    last_range_offsets_reached_in_all_partitionscount_messages_in_buffers_by_partitions\
-    has_messages_in_buffershas_not_fully_read_rangesall_ranges_read_and_collected\
-    check_all_ranges_read_and_collectedall_read_externals_collectedhas_pending_externals\
-    get_last_range_state_offsets_by_partitionsretain_only_last_range_state\
-    set_from_to_current_position_in_last_range_stateincrement_curr_processed_offset\
-    drop_processing_offsetset_skip_processed_offset_to_current\
-    set_processed_to_current_positionreset_read_statedrop_last_read_to_anchor_chain_time\
-    get_partition_ids";
-
-// Where each name ends; the next one begins there.
-const ENDS: [usize; 23] = [
-    0, 8, 33, 62, 87, 131, 170, 193, 218, 247, 282, 310, 331, 373, 401, 449, 480, 502, 538, 571,
-    587, 622, 639,
+// The calls' names, as a record numbers them, from 1.
+const NAMES: [&str; 22] = [
+    "finalize",
+    "open_ranges_limit_reached",
+    "has_non_zero_processed_offset",
+    "last_range_offset_reached",
+    "last_range_offsets_reached_in_all_partitions",
+    "count_messages_in_buffers_by_partitions",
+    "has_messages_in_buffers",
+    "has_not_fully_read_ranges",
+    "all_ranges_read_and_collected",
+    "check_all_ranges_read_and_collected",
+    "all_read_externals_collected",
+    "has_pending_externals",
+    "get_last_range_state_offsets_by_partitions",
+    "retain_only_last_range_state",
+    "set_from_to_current_position_in_last_range_state",
+    "increment_curr_processed_offset",
+    "drop_processing_offset",
+    "set_skip_processed_offset_to_current",
+    "set_processed_to_current_position",
+    "reset_read_state",
+    "drop_last_read_to_anchor_chain_time",
+    "get_partition_ids",
 ];
 
-fn put_part(out: &mut [u8], at: usize, s: &[u8], from: usize, to: usize) -> usize
-    ensures { Puts (record { at = at; bytes = out.old }) (record { at = result; bytes = out.new }) }
-{
-    if s.len() < to {
-        return at;
-    }
-    if to < from {
-        return at;
-    }
-    text::put(out, at, &s[from..to])
+fn name_of(which: u8) -> Option<&'static str> {
+    NAMES.get(usize::from(which.checked_sub(1)?)).copied()
 }
 
-// A call's name and number.
-fn put_call(out: &mut [u8], at: usize, which: u8, number: u8) -> usize
-    ensures { Puts (record { at = at; bytes = out.old }) (record { at = result; bytes = out.new }) }
-{
-    let i = which as usize;
-    if i == 0 {
-        return at;
-    }
-    if 23 <= i {
-        return at;
-    }
-    let named = put_part(&mut *out, at, &NAMES, ENDS[i - 1], ENDS[i]);
-    text::put_number(out, named, number as u64)
+// What a call answers: the reader that it leaves, yes or no, or what it has for each partition.
+#[derive(Clone, Copy)]
+enum Answer {
+    Left(Result<ExternalsReader, Refusal>),
+    Flag(Result<bool, Refusal>),
+    Values(Result<[Option<u32>; 8], Refusal>),
+    Ids(Result<[bool; 8], Refusal>),
 }
 
-// The calls that change the reader.
-fn changed(reader: ExternalsReader, which: u8, par_id: u8, flag: bool) -> ReaderDone {
-    match which {
-        1 => reader_offsets::finalize(reader),
-        14 => reader_offsets::retain_only_last_range_state(reader),
-        15 => reader_offsets::set_from_to_current_position_in_last_range_state(reader),
-        16 => reader_offsets::increment_curr_processed_offset(reader, par_id),
-        17 => reader_offsets::drop_processing_offset(reader, par_id, flag),
-        18 => reader_offsets::set_skip_processed_offset_to_current(reader, par_id),
-        19 => reader_offsets::set_processed_to_current_position(reader, par_id),
-        20 => externals_reader::reset_read_state(reader),
-        _ => externals_reader::drop_last_read_to_anchor_chain_time(reader),
-    }
-}
-
-// The calls that answer yes or no.
-fn asked(
+// The call with this number, in the order of their names; none where no call has it.
+fn call(
+    which: u8,
     tables: &[u8],
     t: AnchorsCacheTransaction,
     reader: ExternalsReader,
-    which: u8,
     par_id: u8,
-) -> FlagAnswer {
-    match which {
-        2 => reader_offsets::open_ranges_limit_reached(reader),
-        3 => reader_offsets::has_non_zero_processed_offset(reader),
-        4 => reader_offsets::last_range_offset_reached(reader, par_id),
-        5 => reader_offsets::last_range_offsets_reached_in_all_partitions(reader),
-        7 => reader_offsets::has_messages_in_buffers(reader),
-        8 => reader_offsets::has_not_fully_read_ranges(reader),
-        9 => reader_offsets::all_ranges_read_and_collected(reader),
-        10 => reader_offsets::check_all_ranges_read_and_collected(reader),
-        11 => reader_offsets::all_read_externals_collected(reader),
-        _ => reader_offsets::has_pending_externals(tables, t, reader),
-    }
+    flag: bool,
+) -> Option<Answer> {
+    Some(match which {
+        1 => Answer::Left(reader_offsets::finalize(reader)),
+        2 => Answer::Flag(reader_offsets::open_ranges_limit_reached(reader)),
+        3 => Answer::Flag(reader_offsets::has_non_zero_processed_offset(reader)),
+        4 => Answer::Flag(reader_offsets::last_range_offset_reached(reader, par_id)),
+        5 => Answer::Flag(reader_offsets::last_range_offsets_reached_in_all_partitions(reader)),
+        6 => Answer::Values(reader_offsets::count_messages_in_buffers_by_partitions(reader)),
+        7 => Answer::Flag(reader_offsets::has_messages_in_buffers(reader)),
+        8 => Answer::Flag(reader_offsets::has_not_fully_read_ranges(reader)),
+        9 => Answer::Flag(reader_offsets::all_ranges_read_and_collected(reader)),
+        10 => Answer::Flag(reader_offsets::check_all_ranges_read_and_collected(reader)),
+        11 => Answer::Flag(reader_offsets::all_read_externals_collected(reader)),
+        12 => Answer::Flag(reader_offsets::has_pending_externals(tables, t, reader)),
+        13 => Answer::Values(reader_offsets::get_last_range_state_offsets_by_partitions(reader)),
+        14 => Answer::Left(reader_offsets::retain_only_last_range_state(reader)),
+        15 => Answer::Left(
+            reader_offsets::set_from_to_current_position_in_last_range_state(reader),
+        ),
+        16 => Answer::Left(reader_offsets::increment_curr_processed_offset(reader, par_id)),
+        17 => Answer::Left(reader_offsets::drop_processing_offset(reader, par_id, flag)),
+        18 => Answer::Left(reader_offsets::set_skip_processed_offset_to_current(reader, par_id)),
+        19 => Answer::Left(reader_offsets::set_processed_to_current_position(reader, par_id)),
+        20 => Answer::Left(externals_reader::reset_read_state(reader)),
+        21 => Answer::Left(externals_reader::drop_last_read_to_anchor_chain_time(reader)),
+        22 => Answer::Ids(externals_reader::get_partition_ids(reader)),
+        _ => return None,
+    })
 }
 
-fn partition_ids(reader: ExternalsReader) -> ByPartitions {
-    let ids = externals_reader::get_partition_ids(reader);
-    let present = ids.present;
-    ByPartitions {
-        number: ids.number,
-        values: [0u32; 8],
-        present: present,
-    }
-}
-
-// The calls that answer with the partitions.
-fn listed(reader: ExternalsReader, which: u8) -> ByPartitions {
-    match which {
-        6 => reader_offsets::count_messages_in_buffers_by_partitions(reader),
-        13 => reader_offsets::get_last_range_state_offsets_by_partitions(reader),
-        _ => partition_ids(reader),
-    }
-}
-
-fn put_value(out: &mut [u8], at: usize, i: usize, present: bool, value: u32, valued: bool) -> usize
+// The name of a call that was done, and its number, 0.
+fn put_done(out: &mut [u8], at: usize, name: &str) -> usize
     ensures { Puts (record { at = at; bytes = out.old }) (record { at = result; bytes = out.new }) }
 {
-    if !present {
-        return at;
-    }
-    if valued {
-        return text::put_joined(out, at, i as u64, &[value as u64]);
-    }
-    text::put_number(out, at, i as u64)
+    let named = text::put(&mut *out, at, name.as_bytes());
+    text::put_number(out, named, 0)
 }
 
-// The partitions that are present, each with its value where there are values.
-fn put_partitions(out: &mut [u8], at: usize, list: ByPartitions, valued: bool) -> usize
+// A partition with its value, if it has one; nothing where it is not there.
+#[tactic(auto, using(text::proofs::Laws::puts_nothing))]
+fn put_item<const N: usize>(out: &mut [u8], at: usize, i: usize, item: Option<[u64; N]>) -> usize
     ensures { Puts (record { at = at; bytes = out.old }) (record { at = result; bytes = out.new }) }
 {
-    let mut to = at;
-    let mut i = 0;
-    while i < 8 {
-        to = put_value(&mut *out, to, i, list.present[i], list.values[i], valued);
-        i += 1;
+    match item {
+        Some(value) => text::put_joined(out, at, i as u64, &value),
+        None => at,
+    }
+}
+
+// The partitions that are present, each with its value.
+#[tactic(auto, using(text::proofs::Laws::puts_nothing))]
+fn put_items<const N: usize>(
+    out: &mut [u8],
+    at: usize,
+    name: &str,
+    answer: Result<[Option<[u64; N]>; 8], Refusal>,
+) -> usize
+    ensures { Puts (record { at = at; bytes = out.old }) (record { at = result; bytes = out.new }) }
+{
+    let items = match answer {
+        Ok(items) => items,
+        Err(refusal) => return text::put_call(out, at, name.as_bytes(), u8::from(refusal)),
+    };
+    let mut to = put_done(&mut *out, at, name);
+    for (i, item) in items.iter().enumerate() {
+        to = put_item(&mut *out, to, i, *item);
     }
     text::put(out, to, b"\n")
 }
 
-// A refused call answers no partition.
-fn put_listed(out: &mut [u8], at: usize, reader: ExternalsReader, which: u8) -> usize
-    ensures { Puts (record { at = at; bytes = out.old }) (record { at = result; bytes = out.new }) }
-{
-    let list = listed(reader, which);
-    let called = put_call(&mut *out, at, which, list.number);
-    put_partitions(out, called, list, which != 22)
-}
-
 // Only a done call tells its answer.
-fn put_asked(out: &mut [u8], at: usize, which: u8, answer: FlagAnswer) -> usize
+fn put_flag(out: &mut [u8], at: usize, name: &str, answer: Result<bool, Refusal>) -> usize
     ensures { Puts (record { at = at; bytes = out.old }) (record { at = result; bytes = out.new }) }
 {
-    let called = put_call(&mut *out, at, which, answer.number);
-    if answer.number != 0 {
-        return text::put(out, called, b"\n");
+    match answer {
+        Ok(flag) => text::put_line(out, at, name.as_bytes(), &[0, u64::from(flag)]),
+        Err(refusal) => text::put_call(out, at, name.as_bytes(), u8::from(refusal)),
     }
-    text::put_line(out, called, b"", &[answer.flag as u64])
 }
 
-// A refused call's reader is taken too: it is as at entry.
-fn after(out: &mut [u8], at: usize, which: u8, done: ReaderDone) -> Called
-    ensures { Puts (record { at = at; bytes = out.old }) (record { at = result.at; bytes = out.new }) }
+fn put_answer(out: &mut [u8], at: usize, name: &str, answer: Answer) -> usize
+    ensures { Puts (record { at = at; bytes = out.old }) (record { at = result; bytes = out.new }) }
 {
-    let reader = done.reader;
-    let called = put_call(&mut *out, at, which, done.number);
-    let end = text::put(out, called, b"\n");
-    Called {
-        reader: reader,
-        at: end,
+    match answer {
+        Answer::Left(left) => {
+            let number = left.map_or_else(u8::from, |_| 0);
+            text::put_call(out, at, name.as_bytes(), number)
+        }
+        Answer::Flag(flag) => put_flag(out, at, name, flag),
+        Answer::Values(values) => {
+            let items = values.map(|all| all.map(|value| value.map(|value| [u64::from(value)])));
+            put_items(out, at, name, items)
+        }
+        Answer::Ids(present) => {
+            let items = present.map(|all| all.map(|is_there| is_there.then_some([])));
+            put_items(out, at, name, items)
+        }
     }
 }
 
-// The call that a payload names, on the cache and the reader.
+// The call that a payload names, on the cache and the reader; one that is not known is none, and a refused one leaves
+// the reader as it was.
+#[tactic(auto, using(text::proofs::Laws::puts_nothing))]
 pub fn function(
     out: &mut [u8],
     at: usize,
@@ -183,25 +173,15 @@ pub fn function(
     ensures { Puts (record { at = at; bytes = out.old }) (record { at = result.at; bytes = out.new }) }
 {
     let which = rows::byte_at(p, 0);
-    let par_id = rows::byte_at(p, 1);
-    match which {
-        2 | 3 | 4 | 5 | 7 | 8 | 9 | 10 | 11 | 12 => {
-            let end = put_asked(out, at, which, asked(tables, t, reader, which, par_id));
-            Called {
-                reader: reader,
-                at: end,
-            }
-        }
-        6 | 13 | 22 => {
-            let end = put_listed(out, at, reader, which);
-            Called {
-                reader: reader,
-                at: end,
-            }
-        }
-        _ => {
-            let done = changed(reader, which, par_id, rows::byte_at(p, 2) == 1);
-            after(out, at, which, done)
-        }
-    }
+    let flag = rows::byte_at(p, 2) == 1;
+    let answer = call(which, tables, t, reader, rows::byte_at(p, 1), flag);
+    let (Some(name), Some(answer)) = (name_of(which), answer) else {
+        return Called { reader, at };
+    };
+    let at = put_answer(out, at, name, answer);
+    let reader = match answer {
+        Answer::Left(left) => left.unwrap_or(reader),
+        _ => reader,
+    };
+    Called { reader, at }
 }

@@ -11,7 +11,7 @@ use Rattle.shard_ident.specs.Shard.{shard_number}
 use Rattle.router.specs.Router.{routes_number}
 use Rattle.messages_buffer.specs.Fullness.{limits_number, partitions_number, limited_number, first_no}
 use Rattle.anchors_cache.specs.declared.AnchorsCacheTransaction.{AnchorsCacheTransaction}
-use Rattle.anchors_cache.specs.declared.Done.{Done}
+use Rattle.anchors_cache.specs.Answers.{Done}
 use Rattle.cache_rules.specs.Rules.{Cache, ask, area_bytes}
 use Rattle.anchors_cache.specs.Tables.{view}
 use Rattle.anchors_cache.specs.Windows.{popped_times}
@@ -19,7 +19,7 @@ use Rattle.anchors_cache.specs.Calls.{places_in, valid_cache, refusal, answer, w
 use Rattle.anchors_cache.proofs.Asked.{parts}
 use Rattle.cache_laws.specs.Book.{Reading}
 use Rattle.cache_laws.proofs.Kept.{valid_of, holds_view}
-use Rattle.range_rules.specs.declared.RangeRead.{RangeRead}
+use Rattle.range_rules.specs.Walks.{RangeRead}
 use Rattle.range_rules.specs.declared.ExternalsRangeReaderState.{ExternalsRangeReaderState}
 use Rattle.range_rules.specs.Rules.{Outcome}
 use Rattle.range_reader.specs.Calls.{asked_number, range_read, read_answer, read_call}

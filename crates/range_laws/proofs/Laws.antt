@@ -1,4 +1,5 @@
 -- What one range's read does and does not do, each law named as a sentence.
+use Rattle.std.specs.Prelude.{None}
 use Prim.Native.Nat.{ℕ}
 use mathlib.Core.Path.{◌≡◌, refl, sym, ap, ◌∙◌}
 use mathlib.Core.Bool.{Bool, true, false}
@@ -15,11 +16,10 @@ use Rattle.anchors_cache.specs.declared.AnchorsCache.{AnchorsCache}
 use Rattle.cache_rules.specs.Rules.{Cache}
 use Rattle.anchors_cache.specs.Windows.{popped_times}
 use Rattle.anchors_cache.specs.Calls.{with_cache}
-use Rattle.range_rules.specs.declared.RangeRead.{RangeRead}
+use Rattle.range_rules.specs.Walks.{RangeRead}
 use Rattle.range_rules.specs.declared.ExternalsRangeReaderState.{ExternalsRangeReaderState}
 use Rattle.range_rules.specs.declared.ProcessedTo.{ProcessedTo}
 use Rattle.range_rules.specs.declared.ReadNextExternalsMode.{ReadNextExternalsMode}
-use Rattle.range_rules.specs.declared.LastChainTime.TheVariants.{Nothing}
 use Rattle.range_rules.specs.Rules.{Outcome, silent, anchors_read, context_of, entry_of}
 use Rattle.range_reader.specs.Calls.{ReadResult, asked_number, refused_answer, done_answer, done_result, range_read, read_call}
 use Rattle.range_reader.proofs.Bounds.{a_read_with_number_0_does_the_six_steps, a_refused_read_gives_only_its_number}
@@ -51,7 +51,7 @@ module _ (tables area : List ℕ) (t : AnchorsCacheTransaction) (shard : ShardId
       ap (λ (q : ReadResult). q.answer.free) h.done ∙ (k ∙ sym (ap (λ (q : ReadResult). range_free limits q.answer.range.by_partitions) h.done))
 
   pub a_refused_read_tells_no_time_no_free_places_no_pops_and_no_bytes : ((read_call tables area t shard routes limits processed timeout mode range out).answer.number ≡ 0 → ⊥)
-      → let a = (read_call tables area t shard routes limits processed timeout mode range out).answer in (a.last_chain_time ≡ Nothing) × (a.free ≡ 0) × (a.pops ≡ 0) × (a.used ≡ 0)
+      → let a = (read_call tables area t shard routes limits processed timeout mode range out).answer in (a.last_chain_time ≡ None) × (a.free ≡ 0) × (a.pops ≡ 0) × (a.used ≡ 0)
   a_refused_read_tells_no_time_no_free_places_no_pops_and_no_bytes p =
       let e = a_refused_read_gives_only_its_number tables area t shard routes limits processed timeout mode range out p in
       (ap (λ (q : ReadResult). q.answer.last_chain_time) e, ap (λ (q : ReadResult). q.answer.free) e, ap (λ (q : ReadResult). q.answer.pops) e, ap (λ (q : ReadResult). q.answer.used) e)

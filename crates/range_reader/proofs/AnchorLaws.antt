@@ -1,62 +1,71 @@
 -- One look at an anchor, and the read over the cached anchors.
-use Prim.Native.Nat.{ℕ, suc, zero, ◌+◌, ◌-◌, ◌*◌, ◌^◌, ◌≤◌, ◌<◌}
-use mathlib.Core.Path.{◌≡◌, refl, sym, ap, ◌∙◌}
+use Rattle.std.specs.Prelude.{None, Some, Result, Ok, Err}
+use Rattle.refusals.specs.declared.Refusal.{Refusal}
+use Rattle.refusals.proofs.Laws.{refused_is_not_done}
+use Prim.Native.Nat.{ℕ, suc, zero, ◌+◌, ◌-◌, ◌*◌, ◌/◌, ◌^◌, ◌≤◌, ◌<◌}
+use mathlib.Core.Path.{◌≡◌, refl, sym, ap, subst, ◌∙◌}
 use mathlib.Core.Bool.{Bool, true, false, not}
 use mathlib.Core.List.{List, [], ◌∷◌, ◌++◌}
 use native.Mathlib.Omega.{arith}
 use lib.Dec.{eqb, ltb}
-use lib.ListN.{length, get_or, take, drop, length-append, length-drop, drop_of_length-le}
+use lib.ListN.{length, get_or, take, drop, length-append, length-drop, length-take, drop_of_length-le}
 use lib.Seq.{sets, drop-drop}
-use borrow.Author.Tests.{eq-eqb, ne_eqb, lt-ltb, le-ltb, ltb-false}
-use Rattle.rows.specs.Rows.{pick, rows}
+use borrow.Author.Tests.{eqb-true, eq-eqb, ne_eqb, lt-ltb, le-ltb, ltb-false}
+use Rattle.rows.specs.Rows.{pick, rows, whole_rows}
 use Rattle.rows.proofs.Laws.{pick_yes, pick_no, rows_within, rows_drop, rows_length, pick_same, pick_both}
 use Rattle.ext_types.specs.Time.{expired_at}
 use Rattle.ext_types.specs.declared.ChainTime.{ChainTime}
 use Rattle.shard_ident.specs.declared.ShardIdent.{ShardIdent}
 use Rattle.anchors_cache.specs.declared.AnchorsCache.{AnchorsCache}
 use Rattle.anchors_cache.specs.declared.CachedAnchor.{CachedAnchor}
-use Rattle.anchors_cache.specs.declared.FoundAnchor.TheVariants as found
 use Rattle.cache_rules.specs.Rules.{total, max_anchors, max_messages}
 use Rattle.anchors_cache.specs.Tables.{anchors, anchors_of, anchor_at, with_messages}
 use Rattle.anchors_cache.specs.Calls.{anchor_found, cached_anchor}
 use Rattle.anchors_cache.proofs.Laws.{anchors_cons, anchors_none, total_more}
 use Rattle.range_rules.specs.declared.Context.{Context}
-use Rattle.range_rules.specs.declared.Walk.{Walk}
-use Rattle.range_rules.specs.declared.RangeRead.{RangeRead}
+use Rattle.range_rules.specs.Walks.{Walk, RangeRead}
 use Rattle.range_rules.specs.Rules.{Outcome, silent, followed, end_reached, ends, full, stopped, refused_with, message_read, messages_read, expired_one, expired_over, fully_read_of, popped, looked, expired, leave, after_pop, is_whole, finished, unread, walked, anchor_read, anchors_read}
 use Rattle.range_rules.specs.Bounds.{Within, Few}
-use Rattle.range_reader.specs.Ready.{Wrote, RangeReady, first_unread, read_or_refused}
+use Rattle.range_reader.specs.declared.Walk.{Walk as CodeWalk}
+use Rattle.range_reader.specs.declared.RangeRead.{RangeRead as CodeRead}
+use Rattle.range_reader.specs.Ready.{Wrote, Tells, Eight, walk_told, walk_tells, range_told, range_tells, RangeReady, first_unread, read_or_refused}
 use Rattle.range_rules.proofs.Counts.{weaker, within_up, within_refused, message_stepped, expired_one_le}
 use Rattle.range_rules.proofs.WalkEnd.{past_the_count_no_message_is_walked}
-use Rattle.range_reader.proofs.MessageLaws.{wrote_nothing, wrote_long, wrote_more}
+use Rattle.range_reader.proofs.Eight.{eight_anchor}
+use Rattle.range_reader.proofs.MessageLaws.{wrote_long, wrote_more}
 
 -- ---- step 6
-module _ (x : Context) (time : ChainTime) (count : ℕ) (w : Walk) (r : RangeRead) (pops : ℕ) (pe : pops ≡ after_pop (is_whole w count) r.pops) (q : RangeRead) where
-  pub finish_refused : (w.number ≡ 0 → ⊥) → q ≡ leave w time pops r.fully_read true → q ≡ finished x time count w r
-  unfolding finished
-  finish_refused n e = e ∙ rw pe (sym (pick_yes _ _ _ (ap not (ne_eqb w.number 0 n))))
+-- a walk that a question refused ends the read
+finish_refused : (x : Context) (time : ChainTime) (count : ℕ) (w : Walk) (r : RangeRead) → (w.number ≡ 0 → ⊥) → (finished x time count w r).walk.number ≡ w.number
+unfolding finished
+finish_refused x time count w r n = rw (pick_yes _ _ _ (ap not (ne_eqb w.number 0 n)))
 
-  module _ (n : w.number ≡ 0) where
-    zeroed : not (eqb w.number 0) ≡ false
-    zeroed = ap not (eq-eqb w.number 0 n)
+-- a look that a question refuses ends the read
+refused_leaves : (x : Context) (time : ChainTime) (count : ℕ) (w : Walk) (r : RangeRead) → ((finished x time count w r).walk.number ≡ 0 → ⊥) → (finished x time count w r).ended ≡ true
+unfolding finished
+refused_leaves x time count w r = go (eqb w.number 0) refl (ends x.mode w.place.reached) (full w.buffers) (is_whole w count)
+  where
+    go : (z : Bool) → eqb w.number 0 ≡ z → (e f g : Bool)
+        → ((pick (not z) (leave w time (after_pop g r.pops) r.fully_read true) (pick e (leave w time (after_pop g r.pops) true true) (pick f (leave w time (after_pop g r.pops) r.fully_read true) (pick g (leave w time (after_pop g r.pops) r.fully_read false) (leave (refused_with 11 w) time (after_pop g r.pops) r.fully_read true))))).walk.number ≡ 0 → ⊥)
+        → (pick (not z) (leave w time (after_pop g r.pops) r.fully_read true) (pick e (leave w time (after_pop g r.pops) true true) (pick f (leave w time (after_pop g r.pops) r.fully_read true) (pick g (leave w time (after_pop g r.pops) r.fully_read false) (leave (refused_with 11 w) time (after_pop g r.pops) r.fully_read true))))).ended ≡ true
+    go false z e f g n = refl
+    go true z true f g n = refl
+    go true z false true g n = refl
+    go true z false false true n = absurd (n (eqb-true w.number 0 z))
+    go true z false false false n = refl
 
-    pub finish_end : ends x.mode w.place.reached ≡ true → q ≡ leave w time pops true true → q ≡ finished x time count w r
-    unfolding finished
-    finish_end h e = e ∙ rw pe (sym (pick_no _ _ _ zeroed ∙ pick_yes _ _ _ h))
+refused_ends : (x : Context) (routes : List ℕ) (id : ℕ) (time : ChainTime) (l : List (List ℕ)) (r : RangeRead) → r.walk.number ≡ 0 → ((anchor_read x routes id time l r).value.walk.number ≡ 0 → ⊥) → (anchor_read x routes id time l r).value.ended ≡ true
+unfolding anchor_read expired looked
+refused_ends x routes id time l r z = go (ltb id x.position.anchor_id) (expired_at x.chain_time time x.limit)
+  where
+    w : Walk
+    w = looked x id r.walk
 
-    module _ (h : ends x.mode w.place.reached ≡ false) where
-      pub finish_full : full w.buffers ≡ true → q ≡ leave w time pops r.fully_read true → q ≡ finished x time count w r
-      unfolding finished
-      finish_full f e = e ∙ rw pe (sym (pick_no _ _ _ zeroed ∙ (pick_no _ _ _ h ∙ pick_yes _ _ _ f)))
-
-      module _ (f : full w.buffers ≡ false) where
-        pub finish_next : is_whole w count ≡ true → q ≡ leave w time pops r.fully_read false → q ≡ finished x time count w r
-        unfolding finished
-        finish_next g e = e ∙ rw pe (sym (pick_no _ _ _ zeroed ∙ (pick_no _ _ _ h ∙ (pick_no _ _ _ f ∙ pick_yes _ _ _ g))))
-
-        pub finish_eleven : is_whole w count ≡ false → (v : Walk) → v ≡ refused_with 11 w → q ≡ leave v time pops r.fully_read true → q ≡ finished x time count w r
-        unfolding finished
-        finish_eleven g v d e = e ∙ rw (pe, d) (sym (pick_no _ _ _ zeroed ∙ (pick_no _ _ _ h ∙ (pick_no _ _ _ f ∙ pick_no _ _ _ g))))
+    go : (p e : Bool) → ((pick p (silent (popped r)) (pick e (silent (expired x time (expired_over x.shard routes (unread w l) w.counts.expired) w r)) (walked x time (length l) (messages_read x routes time (unread w l) (silent w)) r))).value.walk.number ≡ 0 → ⊥)
+        → (pick p (silent (popped r)) (pick e (silent (expired x time (expired_over x.shard routes (unread w l) w.counts.expired) w r)) (walked x time (length l) (messages_read x routes time (unread w l) (silent w)) r))).value.ended ≡ true
+    go true e n = absurd (n z)
+    go false true n = absurd (n z)
+    go false false n = refused_leaves x time (length l) (messages_read x routes time (unread w l) (silent w)).value r n
 
 -- ---- the walk over an anchor's messages keeps the counts
 pub record Kept (x : Context) (k used : ℕ) (s : Outcome Walk) : Type 0 where
@@ -172,64 +181,90 @@ unread_first offset l count e = go (ltb offset count) refl
         let b : length l ≤ offset = omega arith in
         drop_of_length-le l a ∙ sym (drop_of_length-le l b)
 
-module _ (area : List ℕ) (place count offset f : ℕ) (fe : f ≡ first_unread offset count) (fl : f ≤ count) where
-  pub rest_messages : rows 33 (count - f) (take (33 * (place + count) - 33 * (place + f)) (drop (33 * (place + f)) area)) ≡ drop offset (rows 33 count (drop (33 * place) area))
+module _ (area : List ℕ) (place count offset f : ℕ) (fe : f ≡ first_unread offset count) (fl : f ≤ count) (placed : 33 * (place + count) ≤ length area) where
+  rest_length : length (take (33 * (place + count) - 33 * (place + f)) (drop (33 * (place + f)) area)) ≡ 33 * (count - f)
+  rest_length = simp (length-take, length-drop) (omega arith)
+
+  pub rest_count : length (take (33 * (place + count) - 33 * (place + f)) (drop (33 * (place + f)) area)) / 33 ≡ count - f
+  rest_count = rw rest_length (omega arith)
+
+  pub rest_messages : whole_rows 33 (take (33 * (place + count) - 33 * (place + f)) (drop (33 * (place + f)) area)) ≡ drop offset (rows 33 count (drop (33 * place) area))
   rest_messages =
       let l = rows 33 count (drop (33 * place) area) in
       let e : 33 * (place + f) ≡ 33 * place + 33 * f = omega arith in
-      rows_within 33 (count - f) (33 * (place + count) - 33 * (place + f)) (drop (33 * (place + f)) area) (omega arith)
+      ap (λ (k : ℕ). rows 33 k (take (33 * (place + count) - 33 * (place + f)) (drop (33 * (place + f)) area))) rest_count
+      ∙ rows_within 33 (count - f) (33 * (place + count) - 33 * (place + f)) (drop (33 * (place + f)) area) (omega arith)
       ∙ (rw (e, sym (drop-drop (33 * f) (33 * place) area)) (sym (rows_drop 33 f count (drop (33 * place) area)))
       ∙ (ap (λ (i : ℕ). drop i l) fe ∙ unread_first offset l count (rows_length 33 count (drop (33 * place) area))))
 
 module _ (x : Context) (routes area : List ℕ) (id : ℕ) (time : ChainTime) (place count : ℕ) (r : RangeRead) (write : Bool) (out : List ℕ) where
-  pub anchor_popped : (used : ℕ) (q : RangeRead) → id < x.position.anchor_id → q ≡ popped r → Wrote write used out out q (anchor_read x routes id time (rows 33 count (drop (33 * place) area)) r)
-  unfolding anchor_read
-  anchor_popped used q i e = rw (lt-ltb id x.position.anchor_id i) (wrote_nothing write used out q (popped r) e)
+  -- what is said of the look at this anchor
+  abbrev Looks : ℕ → List ℕ → Result CodeRead Refusal → Type 0
+  Looks used o q = Tells write used out o (range_tells q) (anchor_read x routes id time (rows 33 count (drop (33 * place) area)) r)
 
-  module _ (w : Walk) (f : ℕ) (i : x.position.anchor_id ≤ id) (we : w ≡ looked x id r.walk) (fe : f ≡ first_unread w.place.key.msgs_offset count) (fl : f ≤ count) where
-    pub anchor_expired : (used : ℕ) (counts : List ℕ) (q : RangeRead) → expired_at x.chain_time time x.limit ≡ true
-        → counts ≡ expired_over x.shard routes (rows 33 (count - f) (take (33 * (place + count) - 33 * (place + f)) (drop (33 * (place + f)) area))) w.counts.expired
-        → q ≡ expired x time counts w r → Wrote write used out out q (anchor_read x routes id time (rows 33 count (drop (33 * place) area)) r)
+  pub anchor_popped : (used : ℕ) (q : CodeRead) → id < x.position.anchor_id → range_told q ≡ popped r → Looks used out (Ok q)
+  unfolding anchor_read
+  anchor_popped used q i e = rw (lt-ltb id x.position.anchor_id i) (record { value = e; out = sym (pick_same write out) })
+
+  module _ (w : Walk) (f : ℕ) (i : x.position.anchor_id ≤ id) (we : w ≡ looked x id r.walk) (fe : f ≡ first_unread w.place.key.msgs_offset count) (fl : f ≤ count) (placed : 33 * (place + count) ≤ length area) where
+    abbrev rest : List ℕ
+    rest = take (33 * (place + count) - 33 * (place + f)) (drop (33 * (place + f)) area)
+
+    pub anchor_expired : (used : ℕ) (counts : List ℕ) (q : CodeRead) → expired_at x.chain_time time x.limit ≡ true → counts ≡ expired_over x.shard routes (whole_rows 33 rest) w.counts.expired
+        → range_told q ≡ expired x time counts w r → Looks used out (Ok q)
     unfolding anchor_read
     anchor_expired used counts q e ce qe =
         let l = rows 33 count (drop (33 * place) area) in
-        let c : counts ≡ expired_over x.shard routes (drop w.place.key.msgs_offset l) w.counts.expired = ce ∙ ap (λ (m : List (List ℕ)). expired_over x.shard routes m w.counts.expired) (rest_messages area place count w.place.key.msgs_offset f fe fl) in
+        let c : counts ≡ expired_over x.shard routes (drop w.place.key.msgs_offset l) w.counts.expired = ce ∙ ap (λ (m : List (List ℕ)). expired_over x.shard routes m w.counts.expired) (rest_messages area place count w.place.key.msgs_offset f fe fl placed) in
         rw (le-ltb id x.position.anchor_id i, e, sym we)
-        (wrote_nothing write used out q (expired x time (expired_over x.shard routes (drop w.place.key.msgs_offset l) w.counts.expired) w r) (qe ∙ ap (λ (n : List ℕ). expired x time n w r) c))
+        (record { value = qe ∙ ap (λ (n : List ℕ). expired x time n w r) c; out = sym (pick_same write out) })
 
     module _ (fresh : expired_at x.chain_time time x.limit ≡ false) where
       -- over the messages from the offset on
-      anchor_over : (o : List ℕ) (v : Walk) (q : RangeRead) → Wrote write w.buffers.used out o v (messages_read x routes time (unread w (rows 33 count (drop (33 * place) area))) (silent w))
-          → q ≡ finished x time count v r → Wrote write r.walk.buffers.used out o q (anchor_read x routes id time (rows 33 count (drop (33 * place) area)) r)
+      anchor_over : (o : List ℕ) (says : RangeRead → Type 0) → says (finished x time count (messages_read x routes time (unread w (rows 33 count (drop (33 * place) area))) (silent w)).value r)
+          → o ≡ pick write (sets out w.buffers.used (messages_read x routes time (unread w (rows 33 count (drop (33 * place) area))) (silent w)).entries) out
+          → Tells write r.walk.buffers.used out o says (anchor_read x routes id time (rows 33 count (drop (33 * place) area)) r)
       unfolding anchor_read
-      anchor_over o v q g qe =
+      anchor_over o says p g =
           let l = rows 33 count (drop (33 * place) area) in
           let u : w.buffers.used ≡ r.walk.buffers.used = ap (λ (a : Walk). a.buffers.used) we ∙ looked_used x id r.walk in
           let n : length l ≡ count = rows_length 33 count (drop (33 * place) area) in
           rw (le-ltb id x.position.anchor_id i, fresh, sym we, n)
-          (record {
-            value = qe ∙ ap (λ (a : Walk). finished x time count a r) g.value;
-            out = g.out ∙ ap (λ (k : ℕ). pick write (sets out k (messages_read x routes time (unread w l) (silent w)).entries) out) u;
-          })
+          (record { value = p; out = g ∙ ap (λ (k : ℕ). pick write (sets out k (messages_read x routes time (unread w l) (silent w)).entries) out) u })
 
-      pub anchor_walked : (o : List ℕ) (v : Walk) (q : RangeRead) → Wrote write w.buffers.used out o v (messages_read x routes time (rows 33 (count - f) (take (33 * (place + count) - 33 * (place + f)) (drop (33 * (place + f)) area))) (silent w))
-          → q ≡ finished x time count v r → Wrote write r.walk.buffers.used out o q (anchor_read x routes id time (rows 33 count (drop (33 * place) area)) r)
-      anchor_walked o v q h = anchor_over o v q (rw (rest_messages area place count w.place.key.msgs_offset f fe fl) at h)
+      module _ (o : List ℕ) where
+        walked_messages : (says : Walk → Type 0) → Tells write w.buffers.used out o says (messages_read x routes time (whole_rows 33 rest) (silent w))
+            → Tells write w.buffers.used out o says (messages_read x routes time (unread w (rows 33 count (drop (33 * place) area))) (silent w))
+        walked_messages says h = rw (rest_messages area place count w.place.key.msgs_offset f fe fl placed) at h
 
-      pub anchor_past : (q : RangeRead) → count < w.place.key.msgs_offset → q ≡ finished x time count w r
-          → Wrote write r.walk.buffers.used out out q (anchor_read x routes id time (rows 33 count (drop (33 * place) area)) r)
-      anchor_past q past =
+        pub anchor_walked : (v : CodeWalk) (q : Result CodeRead Refusal) → Tells write w.buffers.used out o (walk_tells (Ok v)) (messages_read x routes time (whole_rows 33 rest) (silent w))
+            → range_tells q (finished x time count (walk_told v) r) → Looks r.walk.buffers.used o q
+        anchor_walked v q h p =
+            let g = walked_messages (walk_tells (Ok v)) h in
+            anchor_over o (range_tells q) (subst (λ (a : Walk). range_tells q (finished x time count a r)) g.value p) g.out
+
+        -- a question refused a message
+        pub anchor_refused : (e : Refusal) → Tells write w.buffers.used out o (walk_tells (Err e)) (messages_read x routes time (whole_rows 33 rest) (silent w)) → Looks r.walk.buffers.used o (Err e)
+        anchor_refused e h =
+            let g = walked_messages (walk_tells (Err e)) h in
+            let s = messages_read x routes time (unread w (rows 33 count (drop (33 * place) area))) (silent w) in
+            let n : (s.value.number ≡ 0 → ⊥) = λ z. refused_is_not_done e (g.value ∙ z) in
+            anchor_over o (range_tells (Err e)) (g.value ∙ sym (finish_refused x time count s.value r n)) g.out
+
+      pub anchor_past : (q : Result CodeRead Refusal) → count < w.place.key.msgs_offset → range_tells q (finished x time count w r) → Looks r.walk.buffers.used out q
+      anchor_past q past p =
           let l = rows 33 count (drop (33 * place) area) in
           let n : length l ≤ w.place.key.msgs_offset = omega (arith, rows_length 33 count (drop (33 * place) area)) in
-          anchor_over out w q (rw (past_the_count_no_message_is_walked x routes time l w.place.key.msgs_offset w n) (wrote_nothing write w.buffers.used out w w refl))
+          let e = past_the_count_no_message_is_walked x routes time l w.place.key.msgs_offset w n in
+          anchor_over out (range_tells q) (rw e p) (rw e (sym (pick_same write out)))
 
 -- ---- the anchors
 -- the front anchor of a window
-pub front_some : (place at left : ℕ) (tables : List ℕ) (a : CachedAnchor) → anchor_found place (anchors at left tables) ≡ found.Anchor a → (0 < left) × (a ≡ cached_anchor place (anchor_at at tables))
+pub front_some : (place at left : ℕ) (tables : List ℕ) (a : CachedAnchor) → anchor_found place (anchors at left tables) ≡ Some a → (0 < left) × (a ≡ cached_anchor place (anchor_at at tables))
 front_some place at zero tables a e = let g = rw (anchors_none at 0 tables (omega arith)) at e in absurd (let z : ◌≡◌ {A = ℕ} 0 1 = cc in omega arith)
 front_some place at (suc k) tables a e = let g = rw (anchors_cons at (suc k) tables (omega arith)) at e in (omega arith, cc)
 
-pub front_none : (place at left : ℕ) (tables : List ℕ) → anchor_found place (anchors at left tables) ≡ found.Nothing → left ≤ 0
+pub front_none : (place at left : ℕ) (tables : List ℕ) → anchor_found place (anchors at left tables) ≡ None → left ≤ 0
 front_none place at zero tables e = omega arith
 front_none place at (suc k) tables e = let g = rw (anchors_cons at (suc k) tables (omega arith)) at e in absurd (let z : ◌≡◌ {A = ℕ} 0 1 = cc in omega arith)
 
@@ -261,6 +296,8 @@ pub record RangeTurn (x : Context) (routes tables area : List ℕ) (write : Bool
   pub few_pops : r.pops + left ≤ max_anchors
   pub placed : 33 * (place + total (anchors at left tables)) ≤ length area
   pub near : place + total (anchors at left tables) < 2 ^ 63
+  pub number : r.walk.number ≡ 0
+  pub eight : Eight r.walk
   pub few : Few x (total (anchors at left tables)) r.walk
   pub used_part : r.walk.buffers.used ≡ used₀ + length entries
   pub long : length out ≡ length out₀
@@ -268,13 +305,13 @@ pub record RangeTurn (x : Context) (routes tables area : List ℕ) (write : Bool
   pub read : anchors_read x routes (with_messages (drop (33 * place) area) (anchors at left tables)) (record { value = r; entries = entries }) ≡ all
 
 module _ (x : Context) (routes tables area : List ℕ) (write : Bool) (out₀ : List ℕ) (used₀ : ℕ) (all : Outcome RangeRead) (out : List ℕ) (r : RangeRead) (at left place : ℕ) (h : RangeTurn x routes tables area write out₀ used₀ all out r at left place) where
-  range_end : (q : Outcome RangeRead) (o : List ℕ) → q ≡ all → o ≡ pick write (sets out₀ used₀ q.entries) out₀ → Wrote write used₀ out₀ o q.value all
-  range_end q o e g = record { value = ap (λ (s : Outcome RangeRead). s.value) e; out = g ∙ ap (λ (s : Outcome RangeRead). pick write (sets out₀ used₀ s.entries) out₀) e }
+  range_end : (says : RangeRead → Type 0) (q : Outcome RangeRead) (o : List ℕ) → says q.value → q ≡ all → o ≡ pick write (sets out₀ used₀ q.entries) out₀ → Tells write used₀ out₀ o says all
+  range_end says q o p e g = record { value = subst (λ (s : Outcome RangeRead). says s.value) e p; out = g ∙ ap (λ (s : Outcome RangeRead). pick write (sets out₀ used₀ s.entries) out₀) e }
 
-  pub range_none : (q : RangeRead) → left ≤ 0 → q ≡ fully_read_of r → Wrote write used₀ out₀ out q all
+  pub range_none : (q : CodeRead) → left ≤ 0 → range_told q ≡ fully_read_of r → Tells write used₀ out₀ out (range_tells (Ok q)) all
   range_none q z e =
       let s : Outcome RangeRead = record { value = r; entries = h.entries } in
-      rw e (range_end (record { value = fully_read_of r; entries = h.entries }) out (sym (read_none x routes tables area at left place s z) ∙ h.read) h.wrote)
+      range_end (range_tells (Ok q)) (record { value = fully_read_of r; entries = h.entries }) out e (sym (read_none x routes tables area at left place s z) ∙ h.read) h.wrote
 
   module _ (a : CachedAnchor) (more : 0 < left) (ae : a ≡ cached_anchor place (anchor_at at tables)) where
     counted : total (anchors at left tables) ≡ a.count + total (anchors (at + 1) (left - 1) tables)
@@ -287,21 +324,28 @@ module _ (x : Context) (routes tables area : List ℕ) (write : Bool) (out₀ : 
         let f = h.few.few in
         (omega (arith, h.placed), (omega (arith, h.near), record { few = omega arith; within = within_up x (max_messages - total (anchors at left tables)) r.walk h.few.within (max_messages - a.count) (omega arith) }))
 
-    module _ (o : List ℕ) (q : RangeRead) (g : Wrote write r.walk.buffers.used out o q (anchor_read x routes a.id a.chain_time (rows 33 a.count (drop (33 * a.place) area)) r)) where
-      abbrev now_read : Outcome RangeRead
-      now_read = anchor_read x routes a.id a.chain_time (rows 33 a.count (drop (33 * a.place) area)) r
+    abbrev now_read : Outcome RangeRead
+    now_read = anchor_read x routes a.id a.chain_time (rows 33 a.count (drop (33 * a.place) area)) r
 
+    module _ (o : List ℕ) (says : RangeRead → Type 0) (g : Tells write r.walk.buffers.used out o says now_read) where
       wrote_both : o ≡ pick write (sets out₀ used₀ (h.entries ++ now_read.entries)) out₀
       wrote_both = wrote_more write used₀ r.walk.buffers.used out₀ out o h.entries now_read.entries h.used_part h.wrote g.out
 
-      pub range_ended : q.ended ≡ true → Wrote write used₀ out₀ o q all
-      range_ended e =
+      -- where this look ends the read, what was said of it is said of the read
+      ended_here : now_read.value.ended ≡ true → Tells write used₀ out₀ o says all
+      ended_here f =
           let s : Outcome RangeRead = record { value = r; entries = h.entries } in
-          let f : now_read.value.ended ≡ true = ap (λ (v : RangeRead). v.ended) (sym g.value) ∙ e in
-          rw g.value (range_end (followed s now_read) o (sym (read_ended x routes tables area at left place s a more ae now_read refl f) ∙ h.read) wrote_both)
+          range_end says (followed s now_read) o g.value (sym (read_ended x routes tables area at left place s a more ae now_read refl f) ∙ h.read) wrote_both
 
-      pub range_next : q.ended ≡ false → RangeTurn x routes tables area write out₀ used₀ all o q (at + 1) (left - 1) (place + a.count)
-      range_next e =
+    module _ (o : List ℕ) (e : Refusal) (g : Tells write r.walk.buffers.used out o (range_tells (Err e)) now_read) where
+      -- a refused look ends the read
+      pub range_refused : Tells write used₀ out₀ o (range_tells (Err e)) all
+      range_refused = ended_here o (range_tells (Err e)) g (refused_ends x routes a.id a.chain_time (rows 33 a.count (drop (33 * a.place) area)) r h.number (λ z. refused_is_not_done e (g.value ∙ z)))
+
+    -- where it doesn't, one anchor was popped
+    module _ (o : List ℕ) (q : RangeRead) (g : Wrote write r.walk.buffers.used out o q now_read) (z : q.walk.number ≡ 0) where
+      go_on : q.ended ≡ false → RangeTurn x routes tables area write out₀ used₀ all o q (at + 1) (left - 1) (place + a.count)
+      go_on e =
           let s : Outcome RangeRead = record { value = r; entries = h.entries } in
           let f : now_read.value.ended ≡ false = ap (λ (v : RangeRead). v.ended) (sym g.value) ∙ e in
           let t = counted in
@@ -317,21 +361,32 @@ module _ (x : Context) (routes tables area : List ℕ) (write : Bool) (out₀ : 
             few_pops = omega (arith, h.few_pops, k.few_pops, ap (λ (v : RangeRead). v.pops) g.value);
             placed = omega (arith, h.placed);
             near = omega (arith, h.near);
+            number = z;
+            eight = rw g.value (eight_anchor x routes a.id a.chain_time (rows 33 a.count (drop (33 * a.place) area)) r h.eight);
             few = record { few = omega arith; within = rw g.value (within_up x (max_messages - n + length (rows 33 a.count (drop (33 * a.place) area))) now_read.value.walk k.within (max_messages - m) (omega arith)) };
             used_part = ap (λ (v : RangeRead). v.walk.buffers.used) g.value ∙ (k.used_part ∙ simp length-append (omega (arith, h.used_part)));
             long = wrote_long write r.walk.buffers.used out o q now_read g ∙ h.long;
-            wrote = wrote_both;
+            wrote = wrote_more write used₀ r.walk.buffers.used out₀ out o h.entries now_read.entries h.used_part h.wrote g.out;
             read = rw g.value (sym (read_more x routes tables area at left place s a more ae now_read refl f) ∙ h.read);
           }
 
-pub range_start : (x : Context) (routes tables area : List ℕ) (write : Bool) (out : List ℕ) (c : AnchorsCache) (r : RangeRead) → RangeReady tables area c routes x r out → length area < 2 ^ 64
-    → RangeTurn x routes tables area write out r.walk.buffers.used (anchors_read x routes (with_messages (drop (33 * c.base) area) (anchors_of tables c)) (silent r)) out r c.first c.len c.base
+    module _ (o : List ℕ) (c : CodeRead) (g : Tells write r.walk.buffers.used out o (range_tells (Ok c)) now_read) where
+      pub range_ended : c.ended ≡ true → Tells write used₀ out₀ o (range_tells (Ok c)) all
+      range_ended e = ended_here o (range_tells (Ok c)) g (ap (λ (v : RangeRead). v.ended) (sym g.value) ∙ e)
+
+      pub range_next : c.ended ≡ false → RangeTurn x routes tables area write out₀ used₀ all o (range_told c) (at + 1) (left - 1) (place + a.count)
+      range_next e = go_on o (range_told c) (record { value = g.value; out = g.out }) refl e
+
+pub range_start : (x : Context) (routes tables area : List ℕ) (write : Bool) (out : List ℕ) (c : AnchorsCache) (r : CodeRead) → RangeReady tables area c routes x r out → length area < 2 ^ 64
+    → RangeTurn x routes tables area write out r.walk.buffers.used (anchors_read x routes (with_messages (drop (33 * c.base) area) (anchors_of tables c)) (silent (range_told r))) out (range_told r) c.first c.len c.base
 range_start x routes tables area write out c r h n = record {
   entries = [];
   window = h.window;
   few_pops = omega (arith, h.pops, h.window);
   placed = h.placed;
   near = omega (arith, h.placed);
+  number = refl;
+  eight = h.eight;
   few = h.few;
   used_part = omega arith;
   long = refl;
@@ -341,23 +396,25 @@ range_start x routes tables area write out c r h n = record {
 
 -- ---- the runs
 module _ (write : Bool) (out : List ℕ) (used : ℕ) (all : Outcome RangeRead) where
-  pub written_run : all.value.walk.number ≡ 0 → (p : List ℕ) (v : RangeRead) → write ≡ true → Wrote true used out p v all → record { value = v; entries = p } ≡ read_or_refused write out used all
-  unfolding read_or_refused
-  written_run n p v w g = rw (eq-eqb all.value.walk.number 0 n, w, g.value, g.out)
+  -- what the run that a caller sees says, and what it leaves of the output
+  abbrev Came : Result CodeRead Refusal → List ℕ → Type 0
+  Came q o = range_tells q (read_or_refused write out used all).value × (o ≡ (read_or_refused write out used all).entries)
 
-  pub refused_run : (o : List ℕ) (q : RangeRead) → Wrote false used out o q all → (q.walk.number ≡ 0 → ⊥) → record { value = q; entries = o } ≡ read_or_refused write out used all
+  pub written_run : all.value.walk.number ≡ 0 → (p : List ℕ) (q : Result CodeRead Refusal) → write ≡ true → Tells true used out p (range_tells q) all → Came q p
   unfolding read_or_refused
-  refused_run o q h n =
-      let e : (all.value.walk.number ≡ 0 → ⊥) = λ z. n (ap (λ (v : RangeRead). v.walk.number) h.value ∙ z) in
-      rw (ne_eqb all.value.walk.number 0 e, h.value, h.out)
+  written_run n p q w g = (g.value, rw (eq-eqb all.value.walk.number 0 n, w) g.out)
 
-  module _ (o : List ℕ) (q : RangeRead) (h : Wrote false used out o q all) (n : q.walk.number ≡ 0) where
+  pub refused_run : (o : List ℕ) (e : Refusal) → Tells false used out o (range_tells (Err e)) all → Came (Err e) o
+  unfolding read_or_refused
+  refused_run o e h = (h.value, rw (ne_eqb all.value.walk.number 0 (λ z. refused_is_not_done e (h.value ∙ z))) h.out)
+
+  module _ (o : List ℕ) (dry : CodeRead) (h : Tells false used out o (range_tells (Ok dry)) all) where
     not_refused : all.value.walk.number ≡ 0
-    not_refused = ap (λ (v : RangeRead). v.walk.number) (sym h.value) ∙ n
+    not_refused = ap (λ (v : RangeRead). v.walk.number) (sym h.value)
 
-    pub checked_run : write ≡ false → record { value = q; entries = o } ≡ read_or_refused write out used all
+    pub checked_run : write ≡ false → Came (Ok dry) o
     unfolding read_or_refused
-    checked_run w = rw (eq-eqb all.value.walk.number 0 not_refused, w, h.value, h.out)
+    checked_run w = (h.value, rw (eq-eqb all.value.walk.number 0 not_refused, w) h.out)
 
-    pub done_run : (p : List ℕ) (v : RangeRead) → write ≡ true → Wrote true used o p v all → record { value = v; entries = p } ≡ read_or_refused write out used all
-    done_run p v w g = written_run not_refused p v w (rw h.out at g)
+    pub done_run : (p : List ℕ) (q : Result CodeRead Refusal) → write ≡ true → Tells true used o p (range_tells q) all → Came q p
+    done_run p q w g = written_run not_refused p q w (rw h.out at g)

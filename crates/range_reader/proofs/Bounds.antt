@@ -15,13 +15,12 @@ use Rattle.ext_types.specs.declared.Seconds.{Seconds}
 use Rattle.shard_ident.specs.declared.ShardIdent.{ShardIdent}
 use Rattle.messages_buffer.specs.Fullness.{first_no}
 use Rattle.anchors_cache.specs.declared.AnchorsCacheTransaction.{AnchorsCacheTransaction}
-use Rattle.range_rules.specs.declared.RangeRead.{RangeRead}
-use Rattle.range_reader.specs.declared.ReadExternals.{ReadExternals}
+use Rattle.range_rules.specs.Walks.{RangeRead}
 use Rattle.range_rules.specs.declared.ExternalsRangeReaderState.{ExternalsRangeReaderState}
 use Rattle.range_rules.specs.declared.ProcessedTo.{ProcessedTo}
 use Rattle.range_rules.specs.declared.ReadNextExternalsMode.{ReadNextExternalsMode}
 use Rattle.range_rules.specs.Rules.{Outcome}
-use Rattle.range_reader.specs.Calls.{asked_number, refused_answer, done_result, range_read, ReadResult, read_call}
+use Rattle.range_reader.specs.Calls.{ReadAnswer, asked_number, refused_answer, done_result, range_read, ReadResult, read_call}
 use Rattle.messages_buffer.proofs.Laws.{first_zero, first_alone}
 use Rattle.range_reader.proofs.Numbers.{passed}
 use Rattle.range_rules.specs.Bounds.{AtMost}
@@ -29,7 +28,7 @@ use Rattle.range_reader.proofs.Kept.{steps_kept, every_count_is_at_most_the_cach
 use Rattle.range_reader.proofs.Entries.{steps_fit}
 use Rattle.cache_rules.specs.Rules.{max_anchors, max_messages}
 
-pub record Bounded (room : ℕ) (q : ReadExternals) : Type 0 where
+pub record Bounded (room : ℕ) (q : ReadAnswer) : Type 0 where
   pub counts : AtMost max_messages q.counts
   pub pops : q.pops ≤ max_anchors
   pub used : q.used ≤ room
@@ -81,7 +80,7 @@ module _ (tables area : List ℕ) (t : AnchorsCacheTransaction) (shard : ShardId
       same n s false = refl
 
   -- ---- bounds, whether the read is refused or not
-  pub every_answer_is_bounded : (out : List ℕ) (q : ReadExternals) → q ≡ (read_call tables area t shard routes limits processed timeout mode range out).answer → Bounded (length out) q
+  pub every_answer_is_bounded : (out : List ℕ) (q : ReadAnswer) → q ≡ (read_call tables area t shard routes limits processed timeout mode range out).answer → Bounded (length out) q
   unfolding read_call
   every_answer_is_bounded out q e =
       rw e (record { counts = every_count_is_at_most_the_cached_messages tables area t shard routes limits processed timeout mode range out; pops = few (eqb (number out) 0) refl; used = fits (eqb (number out) 0) refl })
@@ -98,7 +97,7 @@ module _ (tables area : List ℕ) (t : AnchorsCacheTransaction) (shard : ShardId
       fits false e = omega arith
 
   -- ---- the entries
-  pub a_read_with_number_0_stores_its_entries : (out : List ℕ) (q : ReadExternals) (o : List ℕ) → record { answer = q; out = o } ≡ read_call tables area t shard routes limits processed timeout mode range out → q.number ≡ 0
+  pub a_read_with_number_0_stores_its_entries : (out : List ℕ) (q : ReadAnswer) (o : List ℕ) → record { answer = q; out = o } ≡ read_call tables area t shard routes limits processed timeout mode range out → q.number ≡ 0
       → (q.used ≡ length (range_read tables area t shard routes limits processed timeout mode range (length out)).entries) × (o ≡ sets out 0 (range_read tables area t shard routes limits processed timeout mode range (length out)).entries)
   a_read_with_number_0_stores_its_entries out q o e z =
       let h = a_read_with_number_0_does_the_six_steps out (sym (ap (λ (d : ReadResult). d.answer.number) e) ∙ z) in

@@ -21,13 +21,10 @@ use Rattle.anchors_cache.specs.declared.AnchorsCacheTransaction.{AnchorsCacheTra
 use Rattle.cache_rules.specs.Rules.{Anchor}
 use Rattle.anchors_cache.specs.Tables.{view}
 use Rattle.range_rules.specs.declared.Context.{Context}
-use Rattle.range_rules.specs.declared.Walk.{Walk}
-use Rattle.range_rules.specs.declared.RangeRead.{RangeRead}
+use Rattle.range_rules.specs.Walks.{Walk, RangeRead, Verdict, Keep, Buffer, Refuse}
 use Rattle.range_rules.specs.declared.ProcessedTo.{ProcessedTo}
 use Rattle.range_rules.specs.declared.ReadNextExternalsMode.{ReadNextExternalsMode}
 use Rattle.range_rules.specs.declared.ExternalsRangeReaderState.{ExternalsRangeReaderState}
-use Rattle.range_rules.specs.declared.Verdict.{Verdict}
-use Rattle.range_rules.specs.declared.Verdict.TheVariants.{Keep, Buffer, Refuse}
 use Rattle.range_rules.specs.Rules.{Outcome, silent, followed, advanced, ends, full, stopped, no_processed, more, refused_with, read_one, buffered, buffer_one, after, verdict_on, our_read, message_read, messages_read, popped, looked, expired_over, expired, is_whole, finished, unread, anchor_read, next_read, anchors_read, context_of, entry_of, entry_len}
 use Rattle.range_reader.specs.Calls.{asked_number, refused_answer, done_result, range_read, read_call}
 use Rattle.rows.proofs.Laws.{pick_both}

@@ -18,7 +18,7 @@ use Rattle.anchors_cache.specs.Tables.{view, with_messages, anchors_of}
 use Rattle.anchors_cache.proofs.Asked.{refusal_parts}
 use Rattle.anchors_cache.proofs.Laws.{anchors_length, length_messages}
 use Rattle.range_rules.specs.declared.Context.{Context}
-use Rattle.range_rules.specs.declared.RangeRead.{RangeRead}
+use Rattle.range_rules.specs.Walks.{RangeRead}
 use Rattle.range_rules.specs.declared.ExternalsRangeReaderState.{ExternalsRangeReaderState}
 use Rattle.range_rules.specs.declared.ProcessedTo.{ProcessedTo}
 use Rattle.range_rules.specs.declared.ReadNextExternalsMode.{ReadNextExternalsMode}

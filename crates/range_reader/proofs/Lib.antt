@@ -8,3 +8,4 @@ pub mod RefusalLaws
 pub mod Kept
 pub mod Entries
 pub mod Bounds
+pub mod Eight

@@ -1,28 +1,35 @@
 -- One message, and the walk over the messages of an anchor.
-use Prim.Native.Nat.{ℕ, suc, zero, ◌+◌, ◌-◌, ◌*◌, ◌^◌, ◌≤◌, ◌<◌}
-use mathlib.Core.Path.{◌≡◌, refl, sym, ap, ◌∙◌}
+use Prim.Native.Nat.{ℕ, suc, zero, ◌+◌, ◌-◌, ◌*◌, ◌/◌, ◌^◌, ◌≤◌, ◌<◌}
+use mathlib.Core.Path.{◌≡◌, refl, sym, ap, subst, ◌∙◌}
 use mathlib.Core.Bool.{Bool, true, false}
-use mathlib.Core.List.{List, [], ◌++◌}
+use mathlib.Core.List.{List, [], ◌∷◌, ◌++◌}
 use native.Mathlib.Omega.{arith}
-use lib.ListN.{length, get_or, take, drop, length-append}
-use lib.Seq.{sets, length-sets}
-use Rattle.rows.specs.Rows.{pick, rows}
+use lib.ListN.{length, get_or, take, drop, length-append, length-take}
+use lib.Seq.{sets, length-sets, take-take, drop-drop}
+use Rattle.std.proofs.lemmas.List.{drop-take}
+use native.Mathlib.Nat.{add-div_left}
+use Rattle.std.proofs.Math.Seq.{take-append_seam, drop-append_seam}
+use Rattle.rows.specs.Rows.{pick, rows, whole_rows}
 use Rattle.rows.proofs.Laws.{sets_append, pick_yes, pick_no, rows_cons, pick_same}
 use Rattle.ext_types.specs.declared.ChainTime.{ChainTime}
 use Rattle.shard_ident.specs.Shard.{is_ours}
 use Rattle.shard_ident.specs.declared.ShardIdent.{ShardIdent}
 use Rattle.router.specs.Router.{partition_of}
 use Rattle.range_rules.specs.declared.Context.{Context}
-use Rattle.range_rules.specs.declared.Walk.{Walk}
+use Rattle.range_rules.specs.Walks.{Walk}
 use Rattle.range_rules.specs.Rules.{Outcome, silent, followed, stopped, more, message_read, messages_read, expired_one, expired_over}
 use Rattle.range_rules.specs.Bounds.{Within, Few}
-use Rattle.range_reader.specs.Ready.{Wrote}
+use Rattle.range_reader.specs.Ready.{Wrote, Tells}
 use Rattle.range_rules.proofs.Counts.{message_stepped, expired_one_le}
 use Rattle.cache_rules.specs.Rules.{max_messages, area_bytes}
 
 -- ---- the output
 pub wrote_nothing : {A : Type 0} (write : Bool) (used : ℕ) (out : List ℕ) (a v : A) → a ≡ v → Wrote write used out out a (silent v)
 wrote_nothing write used out a v e = record { value = e; out = sym (pick_same write out) }
+
+-- so a result that says something of the same value says it of the rules'
+pub tells : {A : Type 0} (write : Bool) (used : ℕ) (before after : List ℕ) (a : A) (says : A → Type 0) (s : Outcome A) → says a → Wrote write used before after a s → Tells write used before after says s
+tells write used before after a says s p h = record { value = subst says h.value p; out = h.out }
 
 pub wrote_long : {A : Type 0} (write : Bool) (used : ℕ) (before after : List ℕ) (a : A) (s : Outcome A) → Wrote write used before after a s → length after ≡ length before
 wrote_long true used before after a s h = ap length h.out ∙ length-sets before used s.entries
@@ -86,12 +93,10 @@ module _ (x : Context) (routes : List ℕ) (time : ChainTime) (rest : List ℕ) 
   }
 
   module _ (out : List ℕ) (w : Walk) (at left : ℕ) (h : Turn x routes time rest n write out₀ w₀ out w at left) where
-    pub turn_next : (o : List ℕ) (q : Walk) → 0 < left → stopped x w ≡ false → Wrote write w.buffers.used out o q (message_read x routes time (take (at + 33 - at) (drop at rest)) w)
+    pub turn_next : (o : List ℕ) (q : Walk) → 0 < left → stopped x w ≡ false → Wrote write w.buffers.used out o q (message_read x routes time (take 33 (drop at rest)) w)
         → Turn x routes time rest n write out₀ w₀ o q (at + 33) (left - 1)
     turn_next o q p e g =
-        let d : at + 33 - at ≡ 33 = omega arith in
         let t = message_read x routes time (take 33 (drop at rest)) w in
-        let gd : Wrote write w.buffers.used out o q t = rw d at g in
         let b = h.bytes in
         let f = h.few in
         let k : max_messages - (left - 1) ≡ max_messages - left + 1 = omega arith in
@@ -101,12 +106,12 @@ module _ (x : Context) (routes : List ℕ) (time : ChainTime) (rest : List ℕ) 
           bytes = omega arith;
           near = omega (arith, h.near);
           few = omega arith;
-          fits = omega (arith, ap (λ (v : Walk). v.place.key.msgs_offset) gd.value, s.offset, h.fits);
-          within = rw (k, gd.value) s.within;
-          used = ap (λ (v : Walk). v.buffers.used) gd.value ∙ (s.used ∙ simp length-append (omega (arith, h.used)));
-          long = wrote_long write w.buffers.used out o q t gd ∙ h.long;
-          wrote = wrote_more write w₀.buffers.used w.buffers.used out₀ out o h.entries t.entries h.used h.wrote gd.out;
-          walked = rw gd.value (sym (walk_more x routes time rest at left (record { value = w; entries = h.entries }) p e) ∙ h.walked);
+          fits = omega (arith, ap (λ (v : Walk). v.place.key.msgs_offset) g.value, s.offset, h.fits);
+          within = rw (k, g.value) s.within;
+          used = ap (λ (v : Walk). v.buffers.used) g.value ∙ (s.used ∙ simp length-append (omega (arith, h.used)));
+          long = wrote_long write w.buffers.used out o q t g ∙ h.long;
+          wrote = wrote_more write w₀.buffers.used w.buffers.used out₀ out o h.entries t.entries h.used h.wrote g.out;
+          walked = rw g.value (sym (walk_more x routes time rest at left (record { value = w; entries = h.entries }) p e) ∙ h.walked);
         }
 
     -- where the walk ends
@@ -125,42 +130,67 @@ module _ (x : Context) (routes : List ℕ) (time : ChainTime) (rest : List ℕ) 
     pub turn_none : left ≤ 0 → Wrote write w₀.buffers.used out₀ out w (messages_read x routes time (rows 33 n rest) (silent w₀))
     turn_none e = turn_end (walk_none x routes time rest at left (record { value = w; entries = h.entries }) e)
 
+-- ---- the messages as chunks
+-- of k messages from a place on, the first one and the others
+pub chunk_first : (rest : List ℕ) (at k : ℕ) (m next : List ℕ) → take (33 * k) (drop at rest) ≡ m ++ next → length m ≡ 33
+    → (0 < k) × ((m ≡ take 33 (drop at rest)) × (next ≡ take (33 * (k - 1)) (drop (at + 33) rest)))
+chunk_first rest at k m next e w =
+    let l = drop at rest in
+    let n : 33 ≤ length (take (33 * k) l) = omega (arith, ap length e, length-append m next) in
+    let some : 0 < k = omega (arith, length-take (33 * k) l) in
+    let s : 33 * k ≡ 33 + 33 * (k - 1) = omega arith in
+    let a : take 33 (m ++ next) ≡ m = rw (sym w) (take-append_seam m next) in
+    let d : drop 33 (m ++ next) ≡ next = rw (sym w) (drop-append_seam m next) in (
+      some,
+      (
+        sym a ∙ (ap (take 33) (sym e) ∙ take-take 33 (33 * k) l (omega arith)),
+        sym d ∙ (ap (drop 33) (sym e) ∙ (ap (λ (j : ℕ). drop 33 (take j l)) s ∙ (drop-take 33 (33 * (k - 1)) l ∙ ap (take (33 * (k - 1))) (drop-drop 33 at rest)))),
+      ),
+    )
+
 -- ---- an expired anchor's messages
+-- the whole rows of bytes whose first row is known
+whole_cons : (w : ℕ) (row l : List ℕ) → 0 < w → length row ≡ w → whole_rows w (row ++ l) ≡ row ∷ whole_rows w l
+unfolding rows
+whole_cons w row l some e =
+    let n : length (row ++ l) / w ≡ suc (length l / w) = rw (length-append row l, e) (omega (arith, add-div_left (length l) some)) in
+    let t : take w (row ++ l) ≡ row = rw (sym e) (take-append_seam row l) in
+    let d : drop w (row ++ l) ≡ l = rw (sym e) (drop-append_seam row l) in
+    rw (n, t, d)
+
 module _ (shard : ShardIdent) (routes : List ℕ) where
-  pub expired_none : (k at : ℕ) (rest counts : List ℕ) → k ≤ 0 → expired_over shard routes (rows 33 k (drop at rest)) counts ≡ counts
-  unfolding expired_over rows
-  expired_none zero at rest counts h = refl
-  expired_none (suc k) at rest counts h = absurd (omega arith)
+  -- what the loop over them keeps; `left` are the bytes that are left
+  pub record Counted (rest counts₀ counts left : List ℕ) : Type 0 where
+    pub few : length left / 33 ≤ max_messages
+    pub small : (i : ℕ) → get_or counts i 0 ≤ max_messages - length left / 33
+    pub over : expired_over shard routes (whole_rows 33 left) counts ≡ expired_over shard routes (whole_rows 33 rest) counts₀
 
-  expired_more : (k at : ℕ) (rest counts : List ℕ) → 0 < k → expired_over shard routes (rows 33 k (drop at rest)) counts ≡ expired_over shard routes (rows 33 (k - 1) (drop (at + 33) rest)) (expired_one shard routes (take 33 (drop at rest)) counts)
-  unfolding expired_over
-  expired_more k at rest counts h = rw (rows_cons 33 k at rest h)
+  module _ (rest counts₀ counts left : List ℕ) (h : Counted rest counts₀ counts left) where
+    pub counted_end : length left < 33 → counts ≡ expired_over shard routes (whole_rows 33 rest) counts₀
+    unfolding expired_over rows
+    counted_end f = let z : length left / 33 ≡ 0 = omega arith in rw z at h.over
 
-  pub record Counted (rest : List ℕ) (n : ℕ) (counts₀ counts : List ℕ) (at left : ℕ) : Type 0 where
-    pub bytes : at + 33 * left ≤ length rest
-    pub few : left ≤ max_messages
-    pub small : (i : ℕ) → get_or counts i 0 ≤ max_messages - left
-    pub over : expired_over shard routes (rows 33 left (drop at rest)) counts ≡ expired_over shard routes (rows 33 n rest) counts₀
+    module _ (m next : List ℕ) (e : left ≡ m ++ next) (w : length m ≡ 33) where
+      one_less : length left / 33 ≡ length next / 33 + 1
+      one_less = rw (e, length-append m next, w) (omega arith)
 
-  pub counted_next : (rest : List ℕ) (n : ℕ) (counts₀ counts next : List ℕ) (at left : ℕ) → Counted rest n counts₀ counts at left → 0 < left
-      → next ≡ expired_one shard routes (take (at + 33 - at) (drop at rest)) counts → Counted rest n counts₀ next (at + 33) (left - 1)
-  counted_next rest n counts₀ counts next at left h p f =
-      let d : at + 33 - at ≡ 33 = omega arith in
-      let b = h.bytes in
-      let w = h.few in
-      let k : max_messages - (left - 1) ≡ max_messages - left + 1 = omega arith in
-      let g : next ≡ expired_one shard routes (take 33 (drop at rest)) counts = rw d at f in
-      record {
-        bytes = omega arith;
-        few = omega arith;
-        small = rw (k, g) (expired_one_le shard routes (take 33 (drop at rest)) counts (max_messages - left) h.small);
-        over = rw g (sym (expired_more left at rest counts p) ∙ h.over);
-      }
+      pub counted_room : (p : ℕ) → get_or counts p 0 < max_messages
+      counted_room p = omega (arith, h.few, one_less, h.small p)
 
-  pub expired_other : (m counts : List ℕ) → is_ours shard m ≡ false → counts ≡ expired_one shard routes m counts
-  unfolding expired_one
-  expired_other m counts i = sym (pick_no _ _ _ i)
+      counted_next : (new : List ℕ) → new ≡ expired_one shard routes m counts → Counted rest counts₀ new next
+      unfolding expired_over
+      counted_next new f =
+          let k : max_messages - length next / 33 ≡ max_messages - length left / 33 + 1 = omega (arith, h.few, one_less) in
+          record {
+            few = omega (arith, h.few, one_less);
+            small = rw (k, f) (expired_one_le shard routes m counts (max_messages - length left / 33) h.small);
+            over = rw f (sym (rw (e, whole_cons 33 m next (omega arith) w)) ∙ h.over);
+          }
 
-  pub expired_ours : (m counts : List ℕ) (p : ℕ) → is_ours shard m ≡ true → p ≡ partition_of routes m → more counts p ≡ expired_one shard routes m counts
-  unfolding expired_one
-  expired_ours m counts p i e = rw e (sym (pick_yes _ _ _ i))
+      pub counted_other : is_ours shard m ≡ false → Counted rest counts₀ counts next
+      unfolding expired_one
+      counted_other i = counted_next counts (sym (pick_no _ _ _ i))
+
+      pub counted_ours : (p : ℕ) → is_ours shard m ≡ true → p ≡ partition_of routes m → Counted rest counts₀ (more counts p) next
+      unfolding expired_one
+      counted_ours p i e = counted_next (more counts p) (rw e (sym (pick_yes _ _ _ i)))

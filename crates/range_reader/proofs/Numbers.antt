@@ -13,8 +13,7 @@ use Rattle.shard_ident.specs.declared.ShardIdent.{ShardIdent}
 use Rattle.shard_ident.specs.Shard.{is_shard, shard_number}
 use Rattle.shard_ident.proofs.Laws.{question_yes}
 use Rattle.router.specs.Router.{routes_number}
-use Rattle.messages_buffer.specs.declared.FillState.{FillState}
-use Rattle.messages_buffer.specs.Fullness.{limits_number, partitions_number, limited_number, first_no, fill_number, fill_state}
+use Rattle.messages_buffer.specs.Fullness.{FillState, limits_number, partitions_number, limited_number, first_no, fill_number, fill_state}
 use Rattle.anchors_cache.specs.declared.AnchorsCacheTransaction.{AnchorsCacheTransaction}
 use Rattle.anchors_cache.specs.Calls.{refusal}
 use Rattle.range_rules.specs.declared.ExternalsRangeReaderState.{ExternalsRangeReaderState}

@@ -1,22 +1,24 @@
 -- What the public call answers, for every argument.
-use Rattle.std.specs.Prelude.{ℕ, Bool, List, [], ◌∷◌, eqb, length}
+use Rattle.std.specs.Prelude.{ℕ, Bool, List, [], ◌∷◌, eqb, length, Option, None, Result, Ok, Err}
 use Rattle.std.proofs.lemmas.List.Edits.{sets}
 use Rattle.rows.specs.Rows.{pick}
 use Rattle.range_rules.specs.Rules.{range_after, six_steps, range_questions, context_of, no_counts, Outcome}
 use Rattle.ext_types.specs.declared.Seconds.{Seconds}
 use Rattle.shard_ident.specs.declared.ShardIdent.{ShardIdent}
-use Rattle.messages_buffer.specs.declared.FillState.{FillState}
-use Rattle.messages_buffer.specs.Fullness.{range_free, first_no}
+use Rattle.messages_buffer.specs.Fullness.{FillState, range_free, first_no}
 use Rattle.anchors_cache.specs.declared.AnchorsCacheTransaction.{AnchorsCacheTransaction}
 use Rattle.anchors_cache.specs.Tables.{view}
 use Rattle.anchors_cache.specs.Windows.{popped_times}
 use Rattle.anchors_cache.specs.Calls.{refusal, with_cache}
-use Rattle.range_rules.specs.declared.RangeRead.{RangeRead}
+use Rattle.range_rules.specs.Walks.{RangeRead}
+use Rattle.refusals.specs.declared.Refusal.{Refusal}
+use Rattle.refusals.specs.Refusals.{number_of}
+use Rattle.ext_types.specs.declared.ChainTime.{ChainTime}
+use Rattle.range_rules.specs.declared.ReadCounts.{ReadCounts}
 use Rattle.range_reader.specs.declared.ReadExternals.{ReadExternals}
 use Rattle.range_rules.specs.declared.ExternalsRangeReaderState.{ExternalsRangeReaderState}
 use Rattle.range_rules.specs.declared.ProcessedTo.{ProcessedTo}
 use Rattle.range_rules.specs.declared.ReadNextExternalsMode.{ReadNextExternalsMode}
-use Rattle.range_rules.specs.declared.LastChainTime.TheVariants.{Nothing}
 
 -- questions 1 to 5, 9 and 10
 unfoldable pub asked_number : List ℕ → List ℕ → AnchorsCacheTransaction → ShardIdent → List ℕ → List ℕ → ExternalsRangeReaderState → ℕ
@@ -29,11 +31,22 @@ asked_state tables area t shard routes limits range =
       free = pick (eqb (asked_number tables area t shard routes limits range) 0) (range_free limits range.by_partitions) 0;
     }
 
--- a refusal gives only the number
-abbrev pub refused_answer : ℕ → ExternalsRangeReaderState → AnchorsCacheTransaction → ReadExternals
-refused_answer number range t = record { number = number; last_chain_time = Nothing; free = 0; pops = 0; used = 0; counts = no_counts; range = range; state = t }
+-- what a read answers, in document 01's terms
+pub record ReadAnswer : Type 0 where
+  pub number : ℕ
+  pub last_chain_time : Option ChainTime
+  pub free : ℕ
+  pub pops : ℕ
+  pub used : ℕ
+  pub counts : ReadCounts
+  pub range : ExternalsRangeReaderState
+  pub state : AnchorsCacheTransaction
 
-abbrev pub done_answer : ExternalsRangeReaderState → RangeRead → AnchorsCacheTransaction → ReadExternals
+-- a refusal gives only the number
+abbrev pub refused_answer : ℕ → ExternalsRangeReaderState → AnchorsCacheTransaction → ReadAnswer
+refused_answer number range t = record { number = number; last_chain_time = None; free = 0; pops = 0; used = 0; counts = no_counts; range = range; state = t }
+
+abbrev pub done_answer : ExternalsRangeReaderState → RangeRead → AnchorsCacheTransaction → ReadAnswer
 done_answer range r t =
     record {
       number = 0;
@@ -46,6 +59,21 @@ done_answer range r t =
       state = t;
     }
 
+-- the answer that a call's result stands for; the range and t are those that the call was handed
+abbrev pub read_answer_of : ExternalsRangeReaderState → AnchorsCacheTransaction → Result ReadExternals Refusal → ReadAnswer
+read_answer_of range t (Ok a) =
+    record {
+      number = 0;
+      last_chain_time = a.last_chain_time;
+      free = a.free;
+      pops = a.pops;
+      used = a.used;
+      counts = a.counts;
+      range = a.range;
+      state = a.state;
+    }
+read_answer_of range t (Err r) = refused_answer (number_of r) range t
+
 -- the six steps over the cached anchors
 unfoldable pub range_read : List ℕ → List ℕ → AnchorsCacheTransaction → ShardIdent → List ℕ → List ℕ → List ProcessedTo → Seconds → ReadNextExternalsMode → ExternalsRangeReaderState → ℕ → Outcome RangeRead
 range_read tables area t shard routes limits processed timeout mode range room =
@@ -53,7 +81,7 @@ range_read tables area t shard routes limits processed timeout mode range room =
 
 -- the answer, and the lent output's bytes
 pub record ReadResult : Type 0 where
-  pub answer : ReadExternals
+  pub answer : ReadAnswer
   pub out : List ℕ
 
 -- the pops that the six steps made, and their entries from byte 0 on

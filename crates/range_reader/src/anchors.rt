@@ -5,26 +5,26 @@ ghost use Rattle.router.specs.Router.{routes_number};
 ghost use Rattle.cache_rules.specs.Rules.{total, max_anchors, max_messages};
 ghost use Rattle.anchors_cache.specs.Tables.{anchors, anchors_of, tables_bytes};
 ghost use Rattle.anchors_cache.specs.Calls.{anchor_found};
-ghost use Rattle.range_rules.specs.Rules.{offset_in, refused_with, looked, popped, expired, after_pop, leave, finished, anchor_read, fully_read_of};
+ghost use Rattle.range_rules.specs.Rules.{offset_in, looked, expired, finished, anchor_read};
 ghost use Rattle.range_rules.specs.Refusals.{cannot_refuse};
-ghost use Rattle.range_reader.specs.Ready.{AnchorReady, RangeReady, Wrote, first_unread, whole_window_read, read_or_refused};
+ghost use Rattle.range_reader.specs.Ready.{AnchorReady, RangeReady, Tells, walk_told, range_told, range_tells, left_by, first_unread, whole_window_read, read_or_refused};
 
-use crate::{messages, refusals};
-use anchors_cache::{AnchorsCache, CachedAnchor, FoundAnchor};
+use crate::{RangeRead, Walk, halfway, messages};
+use anchors_cache::{AnchorsCache, CachedAnchor};
 use ext_types::{ChainTime, ExternalKey};
-use range_rules::{Context, LastChainTime, Place, RangeRead, Walk};
+use range_rules::Context;
+use refusals::Refusal;
 use router::MESSAGE_LEN;
 
 // The front of the `left` anchors from index `at` on.
-fn front_anchor(tables: &[u8], at: usize, left: usize, place: usize) -> FoundAnchor
+fn front_anchor(tables: &[u8], at: usize, left: usize, place: usize) -> Option<CachedAnchor>
     requires { (at + left ≤ max_anchors) × (tables_bytes ≤ length tables.now) }
     ensures { result ≡ anchor_found place (anchors at left tables.now) }
 {
     if left == 0 {
-        return FoundAnchor::Nothing;
+        return None;
     }
-    let a = anchors_cache::cached_row(tables, at, place);
-    FoundAnchor::Anchor(a)
+    Some(anchors_cache::cached_row(tables, at, place))
 }
 
 fn offset_in(position: ExternalKey, id: u32) -> u64
@@ -37,29 +37,16 @@ fn offset_in(position: ExternalKey, id: u32) -> u64
 }
 
 // An anchor looked at: the offset, and the saved end judged there.
-fn looked(x: Context, id: u32, w: Walk) -> Walk
-    ensures { result ≡ looked x id w }
+#[tactic(auto, unfolding(range_rules::specs::Rules::looked))]
+fn look(x: Context, id: u32, w: &mut Walk)
+    ensures { walk_told w.new ≡ looked x id (walk_told w.old) }
 {
-    let entry = x.position;
-    let end = x.saved_end;
-    let offset = offset_in(entry, id);
     let key = ExternalKey {
         anchor_id: id,
-        msgs_offset: offset,
+        msgs_offset: offset_in(x.position, id),
     };
-    let old = w.place;
-    let position = old.position;
-    let to = old.to;
-    let reached = messages::end_reached(key, end);
-    let place = Place {
-        key: key,
-        reached: reached,
-        position: position,
-        to: to,
-    };
-    let mut r = w;
-    r.place = place;
-    r
+    w.place.key = key;
+    w.place.reached = messages::end_reached(key, x.saved_end);
 }
 
 // The first message from the offset on; past the end, the end. The offset is compared as it is, since it may be any 64
@@ -67,159 +54,80 @@ fn looked(x: Context, id: u32, w: Walk) -> Walk
 fn first_unread(offset: u64, count: usize) -> usize
     ensures { (result ≡ first_unread offset count) × (result ≤ count) × (offset ≤ count → result ≡ offset) }
 {
-    let most = count as u64;
-    if offset < most {
+    if offset < count as u64 {
         return offset as usize;
     }
     count
 }
 
-// Step 2.
-fn popped(r: RangeRead) -> RangeRead
-    requires { r.pops < max_anchors }
-    ensures { result ≡ popped r }
+// Step 4, where the messages are counted: the position is (id, offset), not the anchor's end.
+#[tactic(auto, unfolding(range_rules::specs::Rules::expired))]
+fn expire(x: Context, time: ChainTime, r: &mut RangeRead)
+    requires { r.old.pops < max_anchors }
+    ensures { range_told r.new ≡ expired x time r.old.walk.counts.expired (walk_told r.old.walk) (range_told r.old) }
 {
-    let mut q = r;
-    q.pops = r.pops + 1;
-    q
-}
-
-// Step 4: the position is (id, offset), not the anchor's end.
-fn expired(x: Context, time: ChainTime, counts: [u32; 8], w: Walk, r: RangeRead) -> RangeRead
-    requires { r.pops < max_anchors }
-    ensures { result ≡ expired x time counts w r }
-{
-    let old = w.place;
-    let key = old.key;
-    let end = x.saved_end;
-    let place = messages::moved_to(end, key, old);
-    let mut all = w.counts;
-    all.expired = counts;
-    let mut walk = w;
-    walk.place = place;
-    walk.counts = all;
-    let last = LastChainTime::Time(time);
-    RangeRead {
-        walk: walk,
-        pops: r.pops + 1,
-        fully_read: r.fully_read,
-        ended: false,
-        last: last,
-    }
-}
-
-fn leave(w: Walk, time: ChainTime, pops: usize, fully_read: bool, ended: bool) -> RangeRead
-    ensures { result ≡ leave w time pops fully_read ended }
-{
-    let last = LastChainTime::Time(time);
-    RangeRead {
-        walk: w,
-        pops: pops,
-        fully_read: fully_read,
-        ended: ended,
-        last: last,
-    }
-}
-
-fn after_pop(whole: bool, pops: usize) -> usize
-    requires { pops < max_anchors }
-    ensures { result ≡ after_pop whole pops }
-{
-    if whole {
-        return pops + 1;
-    }
-    pops
-}
-
-fn refused_with(number: u8, w: Walk) -> Walk
-    ensures { result ≡ refused_with number w }
-{
-    let mut r = w;
-    r.number = number;
-    r
+    r.walk.place = messages::moved_to(x.saved_end, r.walk.place.key, r.walk.place);
+    r.pops += 1;
+    r.ended = false;
+    r.last = Some(time);
 }
 
 // Step 6, and question 11 where nothing was popped and nothing ends the read.
-fn finished(x: Context, time: ChainTime, count: usize, w: Walk, r: RangeRead) -> RangeRead
-    requires { r.pops < max_anchors }
-    ensures { result ≡ finished x time count w r }
+#[tactic(auto, using(std::proofs::lemmas::Bool::Decides::nat_tests), unfolding(range_rules::specs::Rules::finished, range_rules::specs::Rules::refused_with))]
+fn finish(x: Context, time: ChainTime, count: usize, r: &mut RangeRead) -> Result<(), Refusal>
+    requires { r.old.pops < max_anchors }
+    ensures { range_tells (left_by result r.new) (finished x time count (walk_told r.old.walk) (range_told r.old)) }
 {
-    let place = w.place;
-    let key = place.key;
-    let buffers = w.buffers;
-    let whole = key.msgs_offset == count as u64;
-    let pops = after_pop(whole, r.pops);
-    if w.number != 0 {
-        return leave(w, time, pops, r.fully_read, true);
-    }
-    let mode = x.mode;
-    if messages::ends(mode, place.reached) {
-        return leave(w, time, pops, true, true);
-    }
-    if buffers.free == 0 {
-        return leave(w, time, pops, r.fully_read, true);
+    let whole = r.walk.place.key.msgs_offset == count as u64;
+    let fully_read = messages::ends(x.mode, r.walk.place.reached);
+    let ended = fully_read || r.walk.buffers.free == 0;
+    if !whole && !ended {
+        return Err(Refusal::PositionPastEnd);
     }
     if whole {
-        return leave(w, time, pops, r.fully_read, false);
+        r.pops += 1;
     }
-    let refused = refused_with(11, w);
-    leave(refused, time, pops, r.fully_read, true)
+    if fully_read {
+        r.fully_read = true;
+    }
+    r.ended = ended;
+    r.last = Some(time);
+    Ok(())
 }
 
-// One look at the front anchor.
+// One look at the front anchor. The read is changed in place, so that none of it is copied for an anchor; a refused one
+// is of no use.
 fn anchor_read(
     x: Context,
     routes: &[u8],
     area: &[u8],
     a: CachedAnchor,
-    r: RangeRead,
     write: bool,
+    r: &mut RangeRead,
     out: &mut [u8],
-) -> RangeRead
-    requires { AnchorReady x routes.now area.now a r out.old }
-    ensures { Wrote write r.walk.buffers.used out.old out.new result (anchor_read x routes.now a.id a.chain_time (rows 33 a.count (drop (33 * a.place) area.now)) r) }
+) -> Result<(), Refusal>
+    requires { AnchorReady x routes.now area.now a r.old out.old }
+    ensures { Tells write r.old.walk.buffers.used out.old out.new (range_tells (left_by result r.new)) (anchor_read x routes.now a.id a.chain_time (rows 33 a.count (drop (33 * a.place) area.now)) (range_told r.old)) }
 {
-    let id = a.id;
-    let entry = x.position;
-    if id < entry.anchor_id {
-        return popped(r);
+    // Step 2.
+    if a.id < x.position.anchor_id {
+        r.pops += 1;
+        return Ok(());
     }
-    let old = r.walk;
-    let w = looked(x, id, old);
-    let place = w.place;
-    let key = place.key;
-    let count = a.count;
-    let from = first_unread(key.msgs_offset, count);
-    let start = MESSAGE_LEN * (a.place + from);
-    let end = MESSAGE_LEN * (a.place + count);
-    let rest = &area[start..end];
-    let n = count - from;
-    let time = a.chain_time;
-    let now = x.chain_time;
-    let limit = x.limit;
-    if ext_types::is_expired(now, time, limit) {
-        let shard = x.shard;
-        let counts = w.counts;
-        let before = counts.expired;
-        let all = messages::count_expired(shard, routes, rest, n, before);
-        return expired(x, time, all, w, r);
+    look(x, a.id, &mut r.walk);
+    let offset = r.walk.place.key.msgs_offset;
+    let from = first_unread(offset, a.count);
+    let rest = &area[MESSAGE_LEN * (a.place + from)..MESSAGE_LEN * (a.place + a.count)];
+    if ext_types::is_expired(x.chain_time, a.chain_time, x.limit) {
+        messages::count_expired(x.shard, routes, rest, &mut r.walk.counts.expired);
+        expire(x, a.chain_time, r);
+        return Ok(());
     }
-    // No message is left, and the offset may be any 64 bits.
-    if (count as u64) < key.msgs_offset {
-        return finished(x, time, count, w, r);
+    // Past the end no message is left, and the offset may be any 64 bits.
+    if offset <= a.count as u64 {
+        messages::messages_read(x, routes, a.chain_time, rest, write, &mut r.walk, out)?;
     }
-    let v = messages::messages_read(x, routes, time, rest, n, w, write, out);
-    finished(x, time, count, v, r)
-}
-
-// Step 1.
-fn fully_read(r: RangeRead) -> RangeRead
-    ensures { result ≡ fully_read_of r }
-{
-    let mut q = r;
-    q.fully_read = true;
-    q.ended = true;
-    q
+    finish(x, a.chain_time, a.count, r)
 }
 
 // The front anchor again and again, until the read ends.
@@ -229,25 +137,26 @@ fn anchors_read(
     c: AnchorsCache,
     routes: &[u8],
     x: Context,
-    begin: RangeRead,
     write: bool,
+    r: &mut RangeRead,
     out: &mut [u8],
-) -> RangeRead
-    requires { RangeReady tables.now area.now c routes.now x begin out.old }
-    ensures { Wrote write begin.walk.buffers.used out.old out.new result (whole_window_read x routes.now tables.now area.now c begin) }
+) -> Result<(), Refusal>
+    requires { RangeReady tables.now area.now c routes.now x r.old out.old }
+    ensures { Tells write r.old.walk.buffers.used out.old out.new (range_tells (left_by result r.new)) (whole_window_read x routes.now tables.now area.now c r.old) }
 {
-    let mut r = begin;
     let mut at = c.first;
     let mut left = c.len;
     let mut place = c.base;
     loop {
-        let front = front_anchor(tables, at, left, place);
-        let FoundAnchor::Anchor(a) = front else {
-            return fully_read(r);
+        // Step 1.
+        let Some(a) = front_anchor(tables, at, left, place) else {
+            r.fully_read = true;
+            r.ended = true;
+            return Ok(());
         };
-        r = anchor_read(x, routes, area, a, r, write, &mut *out);
+        anchor_read(x, routes, area, a, write, &mut *r, &mut *out)?;
         if r.ended {
-            return r;
+            return Ok(());
         }
         at += 1;
         left -= 1;
@@ -267,13 +176,7 @@ fn writes_at_once(
     requires { (c.first + c.len ≤ max_anchors) × (tables_bytes ≤ length tables.now) × (total (anchors_of tables.now c) ≤ max_messages) × (routes_number routes.now ≡ 0) }
     ensures { result ≡ (write && cannot_refuse x begin.walk.buffers.by_partitions routes.now (anchors_of tables.now c)) }
 {
-    if !write {
-        return false;
-    }
-    let w = begin.walk;
-    let buffers = w.buffers;
-    let partitions = buffers.by_partitions;
-    refusals::cannot_refuse(tables, c, routes, x, partitions)
+    write && halfway::cannot_refuse(tables, c, routes, x, begin.walk.buffers.by_partitions)
 }
 
 // First without writing, unless it is certain that the read is not refused; where that run is not refused and `write`
@@ -287,20 +190,20 @@ pub(crate) fn read_or_refuse(
     begin: RangeRead,
     write: bool,
     out: &mut [u8],
-) -> RangeRead
+) -> Result<RangeRead, Refusal>
     requires { RangeReady tables.now area.now c routes.now x begin out.old }
-    ensures { record { value = result; entries = out.new } ≡ read_or_refused write out.old begin.walk.buffers.used (whole_window_read x routes.now tables.now area.now c begin) }
+    ensures { (range_tells result (read_or_refused write out.old begin.walk.buffers.used (whole_window_read x routes.now tables.now area.now c begin)).value)
+        × (out.new ≡ (read_or_refused write out.old begin.walk.buffers.used (whole_window_read x routes.now tables.now area.now c begin)).entries) }
 {
+    let mut r = begin;
     if writes_at_once(tables, c, routes, x, begin, write) {
-        return anchors_read(tables, area, c, routes, x, begin, true, &mut *out);
+        anchors_read(tables, area, c, routes, x, true, &mut r, out)?;
+        return Ok(r);
     }
-    let dry = anchors_read(tables, area, c, routes, x, begin, false, &mut *out);
-    let w = dry.walk;
-    if w.number != 0 {
-        return dry;
+    anchors_read(tables, area, c, routes, x, false, &mut r, &mut *out)?;
+    if write {
+        r = begin;
+        anchors_read(tables, area, c, routes, x, true, &mut r, out)?;
     }
-    if !write {
-        return dry;
-    }
-    anchors_read(tables, area, c, routes, x, begin, true, out)
+    Ok(r)
 }

@@ -1,31 +1,43 @@
 // One range's read of externals: document 01's six steps over the cached anchors.
-// A refused read answers the number and leaves transaction, range and every output byte as at entry.
+// A refused read answers why and leaves transaction, range and every output byte as at entry.
 #![tactic(auto)]
 
-ghost use Rattle.std.specs.Prelude.{◌≡◌};
-ghost use Rattle.range_reader.specs.Calls.{read_call, check_call, read_or_check_call, refused_answer, done_answer};
+ghost use Rattle.std.specs.Prelude.{Ok, ◌≡◌};
+ghost use Rattle.range_reader.specs.Ready.{range_told};
+ghost use Rattle.range_reader.specs.Calls.{read_call, check_call, read_or_check_call, read_answer_of, done_answer};
 ghost use Rattle.range_rules.specs.Rules.{context_of, entry_of};
 
 use anchors_cache::AnchorsCacheTransaction;
 use ext_types::{ChainTime, ExternalKey, Seconds};
 use messages_buffer::ExternalsPartitionRangeReaderState;
 use range_rules::{
-    Buffers, Context, ExternalsRangeReaderState, LastChainTime, NO_COUNTS, Place, ProcessedTo,
-    RangeRead, ReadCounts, ReadNextExternalsMode, Walk,
+    Buffers, Context, ExternalsRangeReaderState, NO_COUNTS, Place, ProcessedTo, ReadCounts,
+    ReadNextExternalsMode,
 };
+use refusals::Refusal;
 use shard_ident::ShardIdent;
 
 mod anchors;
+mod halfway;
 mod messages;
 mod questions;
-mod refusals;
+
+// What a read is asked to do with a range: whose messages it reads, how many of each partition it buffers, from where
+// on, and which anchors are too old.
+#[derive(Clone, Copy, Debug, PartialEq, Eq)]
+pub struct RangeSettings {
+    pub shard: ShardIdent,
+    pub limits: [u16; 8],
+    pub processed: [ProcessedTo; 8],
+    pub timeout: Seconds,
+    pub mode: ReadNextExternalsMode,
+}
 
 // `free` is the fewest free places of the range's buffers at the read's end, 0 where one is full; `pops` anchors went
 // from the cache; the entries take the first `used` bytes of the output.
-#[derive(Clone, Copy)]
+#[derive(Clone, Copy, Debug, PartialEq, Eq)]
 pub struct ReadExternals {
-    pub number: u8,
-    pub last_chain_time: LastChainTime,
+    pub last_chain_time: Option<ChainTime>,
     pub free: u16,
     pub pops: usize,
     pub used: usize,
@@ -34,17 +46,42 @@ pub struct ReadExternals {
     pub state: AnchorsCacheTransaction,
 }
 
-// What the walk over an anchor's messages has come to beside its counts: the refusal, the fewest free places of a
-// buffer, the bytes used.
-#[derive(Clone, Copy)]
+// What a read that no question refused has come to over some messages.
+#[derive(Clone, Copy, Debug, PartialEq, Eq)]
+pub struct Walk {
+    pub place: Place,
+    pub buffers: Buffers,
+    pub counts: ReadCounts,
+}
+
+// And over some anchors.
+#[derive(Clone, Copy, Debug, PartialEq, Eq)]
+pub struct RangeRead {
+    pub walk: Walk,
+    pub pops: usize,
+    pub fully_read: bool,
+    pub ended: bool,
+    pub last: Option<ChainTime>,
+}
+
+// What becomes of a message of ours that no question refuses. `Keep`: it is counted as read and not buffered; `Buffer`:
+// both.
+#[derive(Clone, Copy, Debug, PartialEq, Eq)]
+pub enum Verdict {
+    Keep,
+    Buffer,
+}
+
+// What the walk over an anchor's messages has come to beside its counts: the fewest free places of a buffer, the bytes
+// used.
+#[derive(Clone, Copy, Debug, PartialEq, Eq)]
 pub struct Progress {
-    pub number: u8,
     pub free: u16,
     pub used: usize,
 }
 
 // The fields of an output entry.
-#[derive(Clone, Copy)]
+#[derive(Clone, Copy, Debug, PartialEq, Eq)]
 pub struct Entry {
     pub seqno: u32,
     pub partition: usize,
@@ -52,93 +89,56 @@ pub struct Entry {
     pub time: ChainTime,
 }
 
-// What a message of ours changes: it counts `read` more as read and `buffered` more as buffered in its partition.
-#[derive(Clone, Copy)]
+// What a message of ours changes beside its count as read: it counts `buffered` more as buffered in its partition.
+#[derive(Clone, Copy, Debug, PartialEq, Eq)]
 pub struct Taken {
     pub progress: Progress,
-    pub read: u32,
     pub buffered: u32,
     pub partition: ExternalsPartitionRangeReaderState,
 }
 
-fn context_of(
-    shard: ShardIdent,
-    limits: [u16; 8],
-    processed: [ProcessedTo; 8],
-    timeout: Seconds,
-    mode: ReadNextExternalsMode,
-    range: ExternalsRangeReaderState,
-    room: usize,
-) -> Context
-    ensures { result ≡ context_of shard limits processed timeout mode range room }
+fn context_of(settings: RangeSettings, range: ExternalsRangeReaderState, room: usize) -> Context
+    ensures { result ≡ context_of settings.shard settings.limits settings.processed settings.timeout settings.mode range room }
 {
-    let time = range.chain_time;
-    let position = range.current_position;
-    let end = range.to;
+    let limits = settings.limits;
+    let processed = settings.processed;
     Context {
-        shard: shard,
+        shard: settings.shard,
         seqno: range.seqno,
-        chain_time: time,
-        limit: ext_types::to_millis(timeout),
-        mode: mode,
-        position: position,
-        saved_end: end,
-        limits: limits,
-        processed: processed,
-        room: room,
+        chain_time: range.chain_time,
+        limit: ChainTime::from(settings.timeout),
+        mode: settings.mode,
+        position: range.current_position,
+        saved_end: range.to,
+        limits,
+        processed,
+        room,
     }
 }
 
 fn at_entry(range: ExternalsRangeReaderState, free: u16) -> RangeRead
-    ensures { result ≡ entry_of range free }
+    ensures { range_told result ≡ entry_of range free }
 {
-    let position = range.current_position;
-    let to = range.to;
-    let partitions = range.by_partitions;
-    let place = Place {
-        key: position,
-        reached: false,
-        position: position,
-        to: to,
-    };
-    let buffers = Buffers {
-        free: free,
-        used: 0,
-        by_partitions: partitions,
-    };
-    let walk = Walk {
-        number: 0,
-        place: place,
-        buffers: buffers,
-        counts: NO_COUNTS,
-    };
-    let last = LastChainTime::Nothing;
+    let by_partitions = range.by_partitions;
     RangeRead {
-        walk: walk,
+        walk: Walk {
+            place: Place {
+                key: range.current_position,
+                reached: false,
+                position: range.current_position,
+                to: range.to,
+            },
+            buffers: Buffers {
+                free,
+                used: 0,
+                by_partitions,
+            },
+            counts: NO_COUNTS,
+        },
         pops: 0,
         fully_read: range.fully_read,
         ended: false,
-        last: last,
-    }
-}
-
-fn refused_answer(
-    number: u8,
-    range: ExternalsRangeReaderState,
-    t: AnchorsCacheTransaction,
-) -> ReadExternals
-    ensures { result ≡ refused_answer number range t }
-{
-    let last = LastChainTime::Nothing;
-    ReadExternals {
-        number: number,
-        last_chain_time: last,
-        free: 0,
-        pops: 0,
-        used: 0,
-        counts: NO_COUNTS,
-        range: range,
-        state: t,
+        last: None,
     }
 }
 
@@ -147,35 +147,22 @@ fn done_answer(
     r: RangeRead,
     t: AnchorsCacheTransaction,
 ) -> ReadExternals
-    ensures { result ≡ done_answer range r t }
+    ensures { read_answer_of range t (Ok result) ≡ done_answer range (range_told r) t }
 {
-    let w = r.walk;
-    let place = w.place;
-    let buffers = w.buffers;
-    let counts = w.counts;
-    let last = r.last;
-    let from = range.from;
-    let to = place.to;
-    let position = place.position;
-    let time = range.chain_time;
-    let partitions = buffers.by_partitions;
-    let after = ExternalsRangeReaderState {
-        seqno: range.seqno,
-        from: from,
-        to: to,
-        current_position: position,
-        chain_time: time,
-        fully_read: r.fully_read,
-        by_partitions: partitions,
-    };
+    let by_partitions = r.walk.buffers.by_partitions;
     ReadExternals {
-        number: 0,
-        last_chain_time: last,
-        free: buffers.free,
+        last_chain_time: r.last,
+        free: r.walk.buffers.free,
         pops: r.pops,
-        used: buffers.used,
-        counts: counts,
-        range: after,
+        used: r.walk.buffers.used,
+        counts: r.walk.counts,
+        range: ExternalsRangeReaderState {
+            to: r.walk.place.to,
+            current_position: r.walk.place.position,
+            fully_read: r.fully_read,
+            by_partitions,
+            ..range
+        },
         state: t,
     }
 }
@@ -185,55 +172,36 @@ fn read_or_check(
     tables: &[u8],
     area: &[u8],
     t: AnchorsCacheTransaction,
-    shard: ShardIdent,
     routes: &[u8],
-    limits: [u16; 8],
-    processed: [ProcessedTo; 8],
-    timeout: Seconds,
-    mode: ReadNextExternalsMode,
+    settings: RangeSettings,
     range: ExternalsRangeReaderState,
     write: bool,
     out: &mut [u8],
-) -> ReadExternals
-    ensures { record { answer = result; out = out.new } ≡ read_or_check_call write tables.now area.now t shard routes.now limits processed timeout mode range out.old }
+) -> Result<ReadExternals, Refusal>
+    ensures { record { answer = read_answer_of range t result; out = out.new } ≡ read_or_check_call write tables.now area.now t settings.shard routes.now settings.limits settings.processed settings.timeout settings.mode range out.old }
 {
-    let asked = questions::asked(tables, area, t, shard, routes, limits, range);
-    if asked.number != 0 {
-        return refused_answer(asked.number, range, t);
-    }
-    let x = context_of(shard, limits, processed, timeout, mode, range, out.len());
-    let start = at_entry(range, asked.free);
-    let cache = t.cache;
-    let r = anchors::read_or_refuse(tables, area, cache, routes, x, start, write, &mut *out);
-    let w = r.walk;
-    if w.number != 0 {
-        return refused_answer(w.number, range, t);
-    }
-    let popped = anchors_cache::pop_fronts(tables, area, t, r.pops);
-    let state = popped.state;
-    done_answer(range, r, state)
+    let free = questions::asked(tables, area, t, routes, settings, range)?;
+    let x = context_of(settings, range, out.len());
+    let start = at_entry(range, free);
+    let r = anchors::read_or_refuse(tables, area, t.cache, routes, x, start, write, out)?;
+    let state = anchors_cache::pop_fronts(tables, area, t, r.pops)?;
+    Ok(done_answer(range, r, state))
 }
 
-// One range's read. Where a question could refuse it half-way, a first run that writes nothing decides the number, so
-// that a refusal leaves the output as it is.
+// One range's read. Where a question could refuse it half-way, a first run that writes nothing decides, so that a
+// refusal leaves the output as it is.
 pub fn read_externals_into_buffers(
     tables: &[u8],
     area: &[u8],
     t: AnchorsCacheTransaction,
-    shard: ShardIdent,
     routes: &[u8],
-    limits: [u16; 8],
-    processed: [ProcessedTo; 8],
-    timeout: Seconds,
-    mode: ReadNextExternalsMode,
+    settings: RangeSettings,
     range: ExternalsRangeReaderState,
     out: &mut [u8],
-) -> ReadExternals
-    ensures { record { answer = result; out = out.new } ≡ read_call tables.now area.now t shard routes.now limits processed timeout mode range out.old }
+) -> Result<ReadExternals, Refusal>
+    ensures { record { answer = read_answer_of range t result; out = out.new } ≡ read_call tables.now area.now t settings.shard routes.now settings.limits settings.processed settings.timeout settings.mode range out.old }
 {
-    read_or_check(
-        tables, area, t, shard, routes, limits, processed, timeout, mode, range, true, out,
-    )
+    read_or_check(tables, area, t, routes, settings, range, true, out)
 }
 
 // What the read would answer; nothing is written.
@@ -241,18 +209,12 @@ pub fn check_read_externals(
     tables: &[u8],
     area: &[u8],
     t: AnchorsCacheTransaction,
-    shard: ShardIdent,
     routes: &[u8],
-    limits: [u16; 8],
-    processed: [ProcessedTo; 8],
-    timeout: Seconds,
-    mode: ReadNextExternalsMode,
+    settings: RangeSettings,
     range: ExternalsRangeReaderState,
     out: &mut [u8],
-) -> ReadExternals
-    ensures { record { answer = result; out = out.new } ≡ check_call tables.now area.now t shard routes.now limits processed timeout mode range out.old }
+) -> Result<ReadExternals, Refusal>
+    ensures { record { answer = read_answer_of range t result; out = out.new } ≡ check_call tables.now area.now t settings.shard routes.now settings.limits settings.processed settings.timeout settings.mode range out.old }
 {
-    read_or_check(
-        tables, area, t, shard, routes, limits, processed, timeout, mode, range, false, out,
-    )
+    read_or_check(tables, area, t, routes, settings, range, false, out)
 }

@@ -1,60 +1,35 @@
 // Document 01's questions that come before the walk.
 ghost use Rattle.std.specs.Prelude.{◌≡◌};
+ghost use Rattle.messages_buffer.specs.Fullness.{answer_of};
 ghost use Rattle.range_reader.specs.Calls.{asked_state};
 
+use crate::RangeSettings;
 use anchors_cache::AnchorsCacheTransaction;
 use cache_rules::AREA_BYTES;
-use messages_buffer::FillState;
 use range_rules::ExternalsRangeReaderState;
-use shard_ident::ShardIdent;
-
-fn refused(number: u8) -> FillState
-    ensures { result ≡ record { number = number; free = 0 } }
-{
-    FillState {
-        number: number,
-        free: 0,
-    }
-}
+use refusals::Refusal;
 
 // Questions 1, 2, 3, 4, 5, 9 and 10 in order, and the free places at entry.
 pub(crate) fn asked(
     tables: &[u8],
     area: &[u8],
     t: AnchorsCacheTransaction,
-    shard: ShardIdent,
     routes: &[u8],
-    limits: [u16; 8],
+    settings: RangeSettings,
     range: ExternalsRangeReaderState,
-) -> FillState
-    ensures { result ≡ asked_state tables.now area.now t shard routes.now limits range }
+) -> Result<u16, Refusal>
+    ensures { answer_of result ≡ asked_state tables.now area.now t settings.shard routes.now settings.limits range }
 {
     if area.len() < AREA_BYTES {
-        return refused(1);
+        return Err(Refusal::AreaTooShort);
     }
-    let of_shard = shard_ident::check_shard(shard);
-    if of_shard != 0 {
-        return refused(of_shard);
-    }
-    let of_routes = router::check_routes(routes);
-    if of_routes != 0 {
-        return refused(of_routes);
-    }
-    let of_limits = messages_buffer::check_limits(limits);
-    if of_limits != 0 {
-        return refused(of_limits);
-    }
-    let of_cache = anchors_cache::check_cache(tables, area, t);
-    if of_cache != 0 {
-        return refused(of_cache);
-    }
-    let partitions = range.by_partitions;
-    let of_partitions = messages_buffer::check_partitions(partitions);
-    if of_partitions != 0 {
-        return refused(of_partitions);
-    }
+    shard_ident::check_shard(settings.shard)?;
+    router::check_routes(routes)?;
+    messages_buffer::check_limits(settings.limits)?;
+    anchors_cache::check_cache(tables, area, t)?;
+    messages_buffer::check_partitions(range.by_partitions)?;
     if !t.active {
-        return refused(9);
+        return Err(Refusal::TransactionOpenOrNone);
     }
-    messages_buffer::get_max_buffers_fill_state(limits, partitions)
+    messages_buffer::get_max_buffers_fill_state(settings.limits, range.by_partitions)
 }

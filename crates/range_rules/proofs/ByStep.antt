@@ -1,4 +1,5 @@
 -- Document 01's six steps, where they are easily misread: each law is a sentence of the paper about one step.
+use Rattle.std.specs.Prelude.{None}
 use Prim.Native.Nat.{ℕ, zero, suc, ◌+◌, ◌≤◌, ◌<◌}
 use mathlib.Core.Path.{◌≡◌, refl, sym, ap, ◌∙◌}
 use mathlib.Core.Bool.{Bool, true, false, not, ◌||◌}
@@ -19,14 +20,11 @@ use Rattle.cache_rules.specs.Rules.{area_bytes}
 use Rattle.messages_buffer.specs.Fullness.{limits_number, partitions_number, limited_number, first_no}
 use Rattle.messages_buffer.specs.declared.ExternalsPartitionRangeReaderState.{ExternalsPartitionRangeReaderState}
 use Rattle.range_rules.specs.declared.Context.{Context}
-use Rattle.range_rules.specs.declared.Walk.{Walk}
-use Rattle.range_rules.specs.declared.RangeRead.{RangeRead}
+use Rattle.range_rules.specs.Walks.{Walk, RangeRead, Keep, Buffer, Refuse}
 use Rattle.range_rules.specs.declared.ProcessedTo.{ProcessedTo}
 use Rattle.range_rules.specs.declared.ReadNextExternalsMode.{ReadNextExternalsMode}
 use Rattle.range_rules.specs.declared.ReadNextExternalsMode.TheVariants.{ToTheEnd}
-use Rattle.range_rules.specs.declared.LastChainTime.TheVariants.{Nothing}
 use Rattle.range_rules.specs.declared.ExternalsRangeReaderState.{ExternalsRangeReaderState}
-use Rattle.range_rules.specs.declared.Verdict.TheVariants.{Keep, Buffer, Refuse}
 use Rattle.range_rules.specs.Rules.{Outcome, key_at, with_place, next_key, end_reached, raised, advanced, ends, full, stopped, no_key, no_processed, judge, more, read_one, buffer_one, after, popped, offset_in, look_key, looked, expired, leave, after_pop, is_whole, finished, anchor_read, anchors_read, context_of, entry_of, six_steps, range_after, range_questions}
 
 abbrev zeros : List ℕ
@@ -89,7 +87,7 @@ module _ (x : Context) (routes : List ℕ) (range : ExternalsRangeReaderState) w
   a_read_of_an_empty_cache_ends_fully_read = (refl, refl)
 
   pub a_read_of_an_empty_cache_answers_0_with_no_pop_no_byte_and_no_count :
-      (untouched.walk.number ≡ 0) × (untouched.pops ≡ 0) × (untouched.walk.buffers.used ≡ 0) × (untouched.last ≡ Nothing) × (untouched.walk.counts ≡ record { read = zeros; expired = zeros; buffered = zeros })
+      (untouched.walk.number ≡ 0) × (untouched.pops ≡ 0) × (untouched.walk.buffers.used ≡ 0) × (untouched.last ≡ None) × (untouched.walk.counts ≡ record { read = zeros; expired = zeros; buffered = zeros })
   unfolding anchors_read
   a_read_of_an_empty_cache_answers_0_with_no_pop_no_byte_and_no_count = (refl, refl, refl, refl, refl)
 

@@ -19,10 +19,8 @@ use Rattle.shard_ident.specs.declared.ShardIdent.{ShardIdent}
 use Rattle.router.specs.Router.{partition_of}
 use Rattle.range_rules.specs.declared.Context.{Context}
 use Rattle.range_rules.specs.declared.Buffers.{Buffers}
-use Rattle.range_rules.specs.declared.Walk.{Walk}
+use Rattle.range_rules.specs.Walks.{Walk, Verdict, Keep, Buffer, Refuse}
 use Rattle.range_rules.specs.declared.ProcessedTo.{ProcessedTo}
-use Rattle.range_rules.specs.declared.Verdict.{Verdict}
-use Rattle.range_rules.specs.declared.Verdict.TheVariants.{Keep, Buffer, Refuse}
 use Rattle.range_rules.specs.Rules.{Outcome, silent, advanced, ends, full, stopped, judge, more, refused_with, read_one, buffered, buffer_one, entry_bytes, after, verdict_on, our_read, message_read, expired_one, entry_len}
 use Rattle.range_rules.specs.Bounds.{Within}
 

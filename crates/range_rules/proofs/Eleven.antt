@@ -20,11 +20,8 @@ use Rattle.messages_buffer.specs.declared.ExternalsPartitionRangeReaderState.{Ex
 use Rattle.messages_buffer.specs.Fullness.{no_partition}
 use Rattle.range_rules.specs.declared.Context.{Context}
 use Rattle.range_rules.specs.declared.Buffers.{Buffers}
-use Rattle.range_rules.specs.declared.Walk.{Walk}
-use Rattle.range_rules.specs.declared.RangeRead.{RangeRead}
+use Rattle.range_rules.specs.Walks.{Walk, RangeRead, Verdict, Keep, Buffer, Refuse}
 use Rattle.range_rules.specs.declared.ProcessedTo.{ProcessedTo}
-use Rattle.range_rules.specs.declared.Verdict.{Verdict}
-use Rattle.range_rules.specs.declared.Verdict.TheVariants.{Keep, Buffer, Refuse}
 use Rattle.range_rules.specs.Rules.{Outcome, silent, followed, key_at, end_reached, advanced, ends, full, stopped, judge, no_processed, refused_with, read_one, buffer_one, after, verdict_on, our_read, message_read, messages_read, popped, offset_in, look_key, looked, expired_over, expired, leave, after_pop, is_whole, finished, unread, walked, anchor_read, entry_len}
 use Rattle.range_rules.proofs.Counts.{stopped_full}
 use Rattle.range_rules.proofs.Walks.{walk_all}

@@ -21,12 +21,9 @@ use Rattle.messages_buffer.proofs.Laws.{counts_kept, limit_within, limited_kept}
 use Rattle.cache_rules.specs.Rules.{Anchor}
 use Rattle.range_rules.specs.declared.Context.{Context}
 use Rattle.range_rules.specs.declared.Buffers.{Buffers}
-use Rattle.range_rules.specs.declared.Walk.{Walk}
-use Rattle.range_rules.specs.declared.RangeRead.{RangeRead}
+use Rattle.range_rules.specs.Walks.{Walk, RangeRead, Verdict, Keep, Buffer, Refuse}
 use Rattle.range_rules.specs.declared.ProcessedTo.{ProcessedTo}
 use Rattle.range_rules.specs.declared.ExternalsRangeReaderState.{ExternalsRangeReaderState}
-use Rattle.range_rules.specs.declared.Verdict.{Verdict}
-use Rattle.range_rules.specs.declared.Verdict.TheVariants.{Keep, Buffer, Refuse}
 use Rattle.range_rules.specs.Rules.{Outcome, silent, followed, advanced, ends, full, stopped, no_processed, judge, refused_with, read_one, entry_len, buffered, buffer_one, after, verdict_on, our_read, message_read, messages_read, looked, expired, is_whole, finished, unread, anchor_read, next_read, anchors_read, six_steps}
 use Rattle.range_rules.proofs.Counts.{stopped_full, room_in}
 

@@ -13,8 +13,7 @@ use Rattle.ext_types.specs.declared.ExternalKey.{ExternalKey}
 use Rattle.ext_types.specs.Time.{expired_at}
 use Rattle.range_rules.specs.declared.Context.{Context}
 use Rattle.range_rules.specs.declared.Place.{Place}
-use Rattle.range_rules.specs.declared.Walk.{Walk}
-use Rattle.range_rules.specs.declared.RangeRead.{RangeRead}
+use Rattle.range_rules.specs.Walks.{Walk, RangeRead}
 use Rattle.range_rules.specs.Rules.{Outcome, silent, followed, advanced, full, stopped, refused_with, message_read, messages_read, popped, look_key, looked, is_whole, ends, finished, unread, walked, anchor_read}
 use Rattle.range_rules.proofs.Walks.{message_place}
 

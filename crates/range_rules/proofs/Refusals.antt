@@ -21,11 +21,8 @@ use Rattle.messages_buffer.specs.declared.ExternalsPartitionRangeReaderState.{Ex
 use Rattle.messages_buffer.specs.Fullness.{every, no_partition}
 use Rattle.cache_rules.specs.Rules.{Anchor, row_of, total}
 use Rattle.range_rules.specs.declared.Context.{Context}
-use Rattle.range_rules.specs.declared.Walk.{Walk}
-use Rattle.range_rules.specs.declared.RangeRead.{RangeRead}
+use Rattle.range_rules.specs.Walks.{Walk, RangeRead, Verdict, Keep, Buffer, Refuse}
 use Rattle.range_rules.specs.declared.ProcessedTo.{ProcessedTo}
-use Rattle.range_rules.specs.declared.Verdict.{Verdict}
-use Rattle.range_rules.specs.declared.Verdict.TheVariants.{Keep, Buffer, Refuse}
 use Rattle.range_rules.specs.Rules.{Outcome, silent, followed, advanced, ends, full, stopped, no_processed, judge, refused_with, read_one, one_put, buffered, buffer_one, after, verdict_on, our_read, message_read, messages_read, popped, offset_in, looked, expired_over, expired, leave, after_pop, is_whole, finished, unread, anchor_read, next_read, anchors_read, entry_len}
 use Rattle.range_rules.specs.Refusals.{is_open, route_open, all_open, starts_within, all_fit, cannot_refuse}
 

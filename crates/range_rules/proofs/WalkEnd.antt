@@ -14,7 +14,7 @@ use Rattle.ext_types.specs.Keys.{key_equal}
 use Rattle.range_rules.specs.declared.Context.{Context}
 use Rattle.range_rules.specs.declared.ReadNextExternalsMode.{ReadNextExternalsMode}
 use Rattle.range_rules.specs.declared.ReadNextExternalsMode.TheVariants.{ToTheEnd, ToPreviuosReadTo}
-use Rattle.range_rules.specs.declared.Walk.{Walk}
+use Rattle.range_rules.specs.Walks.{Walk}
 use Rattle.range_rules.specs.Rules.{silent, end_reached, key_at, ends, messages_read}
 use Rattle.range_rules.specs.WalkEnd.{walk_end}
 

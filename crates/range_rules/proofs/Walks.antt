@@ -12,7 +12,7 @@ use Rattle.shard_ident.specs.Shard.{is_ours}
 use Rattle.router.specs.Router.{partition_of}
 use Rattle.range_rules.specs.declared.Context.{Context}
 use Rattle.range_rules.specs.declared.Place.{Place}
-use Rattle.range_rules.specs.declared.Walk.{Walk}
+use Rattle.range_rules.specs.Walks.{Walk}
 use Rattle.range_rules.specs.Rules.{Outcome, silent, followed, advanced, stopped, verdict_on, our_read, message_read, messages_read}
 use Rattle.range_rules.proofs.Counts.{after_place}
 

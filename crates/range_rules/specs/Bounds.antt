@@ -3,7 +3,7 @@ use Rattle.std.specs.Prelude.{ℕ, ◌-◌, ◌≤◌, ◌≡◌, get_or}
 use Rattle.messages_buffer.specs.Fullness.{range_free}
 use Rattle.range_rules.specs.declared.Context.{Context}
 use Rattle.range_rules.specs.declared.ReadCounts.{ReadCounts}
-use Rattle.range_rules.specs.declared.Walk.{Walk}
+use Rattle.range_rules.specs.Walks.{Walk}
 use Rattle.cache_rules.specs.Rules.{max_messages}
 
 -- no count is above k, and `free` is the fewest free places of a buffer

@@ -1,6 +1,6 @@
 -- Document 01, "One range's read": the six steps, on lists of anchors and of messages.
-use Rattle.std.specs.Prelude.{ℕ, ◌+◌, Bool, true, false, not, ◌||◌, List, [], ◌∷◌, ◌++◌, ltb, leb, eqb, length, get_or, drop, set, replicate}
-use Rattle.std.proofs.Math.Option.{Option, none, some}
+use Rattle.std.specs.Prelude.{ℕ, ◌+◌, Bool, true, false, not, ◌||◌, List, [], ◌∷◌, ◌++◌, ltb, leb, eqb, length, get_or, drop, set, replicate, Option, None, Some}
+use Rattle.std.proofs.Math.Option.{Option as Maybe, none, some}
 use Rattle.rows.specs.Rows.{pick, le}
 use Rattle.ext_types.specs.declared.ChainTime.{ChainTime}
 use Rattle.ext_types.specs.declared.ExternalKey.{ExternalKey}
@@ -16,17 +16,12 @@ use Rattle.cache_rules.specs.Rules.{Anchor, ask, area_bytes}
 use Rattle.range_rules.specs.declared.Context.{Context}
 use Rattle.range_rules.specs.declared.Place.{Place}
 use Rattle.range_rules.specs.declared.Buffers.{Buffers}
-use Rattle.range_rules.specs.declared.Walk.{Walk}
-use Rattle.range_rules.specs.declared.RangeRead.{RangeRead}
+use Rattle.range_rules.specs.Walks.{Walk, RangeRead, Verdict, Keep, Buffer, Refuse}
 use Rattle.range_rules.specs.declared.ProcessedTo.{ProcessedTo}
 use Rattle.range_rules.specs.declared.ReadCounts.{ReadCounts}
 use Rattle.range_rules.specs.declared.ExternalsRangeReaderState.{ExternalsRangeReaderState}
 use Rattle.range_rules.specs.declared.ReadNextExternalsMode.{ReadNextExternalsMode}
 use Rattle.range_rules.specs.declared.ReadNextExternalsMode.TheVariants.{ToTheEnd, ToPreviuosReadTo}
-use Rattle.range_rules.specs.declared.LastChainTime.{LastChainTime}
-use Rattle.range_rules.specs.declared.LastChainTime.TheVariants.{Nothing, Time}
-use Rattle.range_rules.specs.declared.Verdict.{Verdict}
-use Rattle.range_rules.specs.declared.Verdict.TheVariants.{Keep, Buffer, Refuse}
 
 -- a state, and the bytes of the entries that go to the lent output
 pub record Outcome (A : Type 0) : Type 0 where
@@ -41,9 +36,9 @@ abbrev pub followed : {A : Type 0} → Outcome A → Outcome A → Outcome A
 followed s t = record { value = t.value; entries = s.entries ++ t.entries }
 
 -- ---- the last chain time: milliseconds where a read saw one, else none
-abbrev pub time_value : LastChainTime → Option ℕ
-time_value Nothing = none
-time_value (Time time) = some time.0
+abbrev pub time_value : Option ChainTime → Maybe ℕ
+time_value None = none
+time_value (Some time) = some time.0
 
 -- ---- places
 -- Step 3: "The saved end is reached when the id is above its id, or equal with equal offset."
@@ -193,12 +188,12 @@ expired x time counts w r =
       pops = r.pops + 1;
       fully_read = r.fully_read;
       ended = false;
-      last = Time time;
+      last = Some time;
     }
 
 -- ---- step 6
 abbrev pub leave : Walk → ChainTime → ℕ → Bool → Bool → RangeRead
-leave w time pops fully ended = record { walk = w; pops = pops; fully_read = fully; ended = ended; last = Time time }
+leave w time pops fully ended = record { walk = w; pops = pops; fully_read = fully; ended = ended; last = Some time }
 
 abbrev pub after_pop : Bool → ℕ → ℕ
 after_pop true pops = pops + 1
@@ -275,7 +270,7 @@ entry_of range free =
       pops = 0;
       fully_read = range.fully_read;
       ended = false;
-      last = Nothing;
+      last = None;
     }
 
 -- the six steps, from the range as it is at entry, over the cached anchors

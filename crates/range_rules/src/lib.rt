@@ -1,5 +1,5 @@
 // No code: one range's read as document 01 tells it (specs/Rules), the types that it speaks of, and laws about these
-// rules (proofs).
+// rules (proofs). Types that rules alone speak of stand in specs/Walks.
 #![tactic(auto)]
 
 use ext_types::{ChainTime, ExternalKey};
@@ -13,7 +13,7 @@ pub const ENTRY_LEN: usize = 26;
 // of an expired anchor that was passed since; the last imported anchor's end, once the block's own range is fully read;
 // before any of these, where the range began. `to` is the furthest place ever read to.
 #[repr(C)]
-#[derive(Clone, Copy)]
+#[derive(Clone, Copy, Debug, PartialEq, Eq)]
 pub struct ExternalsRangeReaderState {
     pub seqno: u32,
     pub from: ExternalKey,
@@ -24,7 +24,7 @@ pub struct ExternalsRangeReaderState {
     pub by_partitions: [ExternalsPartitionRangeReaderState; 8],
 }
 
-#[derive(Clone, Copy)]
+#[derive(Clone, Copy, Debug, PartialEq, Eq)]
 pub enum ReadNextExternalsMode {
     ToTheEnd,
     ToPreviuosReadTo,
@@ -32,22 +32,15 @@ pub enum ReadNextExternalsMode {
 
 // A partition's processed position, if it has one.
 #[repr(C)]
-#[derive(Clone, Copy)]
+#[derive(Clone, Copy, Debug, PartialEq, Eq)]
 pub struct ProcessedTo {
     pub key: ExternalKey,
     pub present: bool,
 }
 
-// The chain time of the last anchor looked at.
-#[derive(Clone, Copy)]
-pub enum LastChainTime {
-    Nothing,
-    Time(ChainTime),
-}
-
 // Messages of ours per partition.
 #[repr(C)]
-#[derive(Clone, Copy)]
+#[derive(Clone, Copy, Debug, PartialEq, Eq)]
 pub struct ReadCounts {
     pub read: [u32; 8],
     pub expired: [u32; 8],
@@ -62,7 +55,7 @@ pub const NO_COUNTS: ReadCounts = ReadCounts {
 
 // What a read fixes at entry. `saved_end` is document 01's saved end: the range's "to" as it is then. `room` is the
 // length of the lent output.
-#[derive(Clone, Copy)]
+#[derive(Clone, Copy, Debug, PartialEq, Eq)]
 pub struct Context {
     pub shard: ShardIdent,
     pub seqno: u32,
@@ -78,7 +71,7 @@ pub struct Context {
 
 // `key` is the id and offset of the anchor looked at; the position follows it only when a message is read or the anchor
 // is expired.
-#[derive(Clone, Copy)]
+#[derive(Clone, Copy, Debug, PartialEq, Eq)]
 pub struct Place {
     pub key: ExternalKey,
     pub reached: bool,
@@ -88,34 +81,9 @@ pub struct Place {
 
 // The range's buffers, the fewest free places of one of them (0: it is full), and how many bytes of the output are
 // used.
-#[derive(Clone, Copy)]
+#[derive(Clone, Copy, Debug, PartialEq, Eq)]
 pub struct Buffers {
     pub free: u16,
     pub used: usize,
     pub by_partitions: [ExternalsPartitionRangeReaderState; 8],
-}
-
-#[derive(Clone, Copy)]
-pub struct Walk {
-    pub number: u8,
-    pub place: Place,
-    pub buffers: Buffers,
-    pub counts: ReadCounts,
-}
-
-#[derive(Clone, Copy)]
-pub struct RangeRead {
-    pub walk: Walk,
-    pub pops: usize,
-    pub fully_read: bool,
-    pub ended: bool,
-    pub last: LastChainTime,
-}
-
-// What becomes of a message of ours. `Keep`: it is counted as read and not buffered; `Buffer`: both.
-#[derive(Clone, Copy)]
-pub enum Verdict {
-    Keep,
-    Buffer,
-    Refuse(u8),
 }

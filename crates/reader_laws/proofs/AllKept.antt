@@ -20,7 +20,7 @@ use Rattle.anchors_cache.specs.Calls.{pops_call, closed_transaction}
 use Rattle.cache_rules.specs.Rules.{Cache}
 use Rattle.cache_laws.specs.Book.{pop_times}
 use Rattle.range_rules.specs.declared.ExternalsRangeReaderState.{ExternalsRangeReaderState}
-use Rattle.range_rules.specs.declared.RangeRead.{RangeRead}
+use Rattle.range_rules.specs.Walks.{RangeRead}
 use Rattle.range_rules.specs.declared.ReadNextExternalsMode.{ReadNextExternalsMode}
 use Rattle.range_rules.specs.Rules.{Outcome, silent, context_of, no_counts}
 use Rattle.range_rules.specs.Bounds.{AtMost}
@@ -32,7 +32,7 @@ use Rattle.reader_rules.specs.declared.ExternalsReader.{ExternalsReader}
 use Rattle.reader_rules.specs.declared.ExternalsReaderState.{ExternalsReaderState}
 use Rattle.reader_rules.specs.declared.GetNextMessageGroupMode.{GetNextMessageGroupMode}
 use Rattle.reader_rules.specs.declared.Fixed.{Fixed}
-use Rattle.reader_rules.specs.declared.RangesRead.{RangesRead}
+use Rattle.reader_rules.specs.Turns.{RangesRead}
 use Rattle.reader_rules.specs.State.{held_ranges, max_ranges, sound_ranges_from, settled_number, state_number}
 use Rattle.reader_rules.specs.Rules.{Told, fixed_of, at_entry, ranges_read}
 use Rattle.reader_rules.specs.Offsets.{all_fully_read}
@@ -126,7 +126,7 @@ module _ (tables area : List ℕ) (t : AnchorsCacheTransaction) (routes : List �
 
   -- questions 4 and 5: the open-ranges limit and the ranges are within 16, whatever the output's length
   pub begun : asked_of_read tables area t routes r ≡ 0 → r.all_ranges_fully_read ≡ false → Start (fixed_of r mode (imported_in tables t.cache) 0) (at_entry state) []
-  begun z m = call_start tables area t routes r mode [] (asked_of_read tables area t routes r) refl z m (fixed_of r mode (imported_in tables t.cache) 0) refl (omega arith)
+  begun z m = call_start tables area t routes r mode [] z m (fixed_of r mode (imported_in tables t.cache) 0) refl (omega arith)
 
   all_sound : Shaped r → state_number state ≡ 0 → asked_of_read tables area t routes r ≡ 0 → r.all_ranges_fully_read ≡ false → Sound all.value
   unfolding all_ranges_read

@@ -18,7 +18,7 @@ use Rattle.anchors_cache.specs.Windows.{popped_times}
 use Rattle.anchors_cache.specs.Calls.{places_in, valid_cache, valid, refusal, on_zero, answer, with_cache, pops_call}
 use Rattle.anchors_cache.proofs.Asked.{refusal_zero}
 use Rattle.range_rules.specs.Rules.{Outcome}
-use Rattle.reader_rules.specs.declared.RangesRead.{RangesRead}
+use Rattle.reader_rules.specs.Turns.{RangesRead}
 use Rattle.reader_rules.specs.Rules.{at_entry}
 use Rattle.externals_reader.specs.Calls.{asked_of_read, all_ranges_read, reader_after, ReadAllResult, unchanged, all_result, read_all_call}
 use Rattle.reader_laws.specs.AllRanges.{HandedAll, book_fixed}

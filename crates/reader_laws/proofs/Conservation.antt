@@ -16,14 +16,13 @@ use Rattle.cache_rules.specs.Rules.{Anchor, Cache}
 use Rattle.anchors_cache.specs.Calls.{closed_transaction}
 use Rattle.cache_laws.specs.Book.{pop_times}
 use Rattle.range_rules.specs.declared.Context.{Context}
-use Rattle.range_rules.specs.declared.RangeRead.{RangeRead}
+use Rattle.range_rules.specs.Walks.{RangeRead}
 use Rattle.range_rules.specs.declared.ExternalsRangeReaderState.{ExternalsRangeReaderState}
 use Rattle.range_rules.specs.Rules.{Outcome, silent, followed, context_of, range_after}
 use Rattle.range_rules.proofs.Conservation.{ours_in, passed_in, unread_all, front_unread, expired_ours, all_buffered, front_buffered, all_position, front_position, all_to, front_to, ReadPassed, a_read_passes_the_messages_in_order_and_counts_each}
 use Rattle.range_reader.specs.Calls.{refused_answer, done_answer}
 use Rattle.reader_rules.specs.declared.Fixed.{Fixed}
-use Rattle.reader_rules.specs.declared.RangesRead.{RangesRead}
-use Rattle.reader_rules.specs.declared.SoFar.{SoFar}
+use Rattle.reader_rules.specs.Turns.{SoFar, RangesRead}
 use Rattle.reader_rules.specs.State.{no_range}
 use Rattle.reader_rules.specs.Rules.{is_skipped, mode_for, settled, sums, Told, numbered, not_all_read, read_of, after_turn, read_turn, turn, is_over, turns, wants_next, with_next_range, ranges_read, at_entry}
 use Rattle.reader_rules.proofs.Each.{each_at}

@@ -1,4 +1,5 @@
 -- The read of all ranges is a call of the book.
+use Rattle.std.specs.Prelude.{Option}
 use Prim.Native.Nat.{ℕ, zero, suc, ◌<◌, ◌≤◌}
 use mathlib.Core.Path.{◌≡◌, refl, ap, ◌∙◌}
 use mathlib.Core.Bool.{Bool, true, false}
@@ -8,7 +9,7 @@ use lib.ListN.{length}
 use lib.Seq.{sets}
 use native.Mathlib.Omega.{arith}
 use borrow.Author.Tests.{le-leb, lt-leb, ne_eqb}
-use mathlib.Core.Option.{Option, none, some}
+use mathlib.Core.Option.{Option as Maybe, none, some}
 use Rattle.ext_types.specs.declared.ExternalKey.{ExternalKey}
 use Rattle.rows.specs.Rows.{pick}
 use Rattle.shard_ident.specs.Shard.{shard_number}
@@ -16,7 +17,7 @@ use Rattle.router.specs.Router.{routes_number}
 use Rattle.messages_buffer.specs.Fullness.{limits_number, partitions_number, limited_number, first_no}
 use Rattle.anchors_cache.specs.declared.AnchorsCache.{AnchorsCache}
 use Rattle.anchors_cache.specs.declared.AnchorsCacheTransaction.{AnchorsCacheTransaction}
-use Rattle.anchors_cache.specs.declared.Done.{Done}
+use Rattle.anchors_cache.specs.Answers.{Done}
 use Rattle.cache_rules.specs.Rules.{Cache, ask, area_bytes, Info, last_of}
 use Rattle.anchors_cache.specs.Tables.{view}
 use Rattle.anchors_cache.specs.Windows.{popped_times}
@@ -32,8 +33,7 @@ use Rattle.range_rules.specs.Rules.{Outcome, key_at}
 use Rattle.range_reader.specs.Calls.{asked_number, range_read}
 use Rattle.messages_buffer.proofs.Laws.{first_zero, first_alone}
 use Rattle.reader_rules.specs.declared.Fixed.{Fixed}
-use Rattle.reader_rules.specs.declared.Imported.{Imported}
-use Rattle.reader_rules.specs.declared.RangesRead.{RangesRead}
+use Rattle.reader_rules.specs.Turns.{RangesRead}
 use Rattle.reader_rules.specs.State.{settings_number, settled_number}
 use Rattle.reader_rules.specs.Rules.{ranges_read, fixed_of, at_entry, imported_value}
 use Rattle.externals_reader.specs.Calls.{asked_of_read, window_read, imported_in, all_ranges_read, reader_after, ReadAllResult, unchanged, all_result, read_all_call, end_of}
@@ -48,7 +48,7 @@ first_more zero (suc b) c = refl
 first_more (suc a) b c = refl
 
 -- ---- the last imported entry
-abbrev counted_end : Option Info → Option ExternalKey
+abbrev counted_end : Maybe Info → Maybe ExternalKey
 counted_end none = none
 counted_end (some i) = some (key_at i.id i.all)
 
@@ -60,7 +60,7 @@ the_last_imported_entry_is_the_history's_last tables area c = refl
 pub the_block's_own_range_is_moved_to_the_last_entry's_id_and_message_count : (v : Cache) → imported_value (imported_of v) ≡ counted_end (last_of v.history)
 the_block's_own_range_is_moved_to_the_last_entry's_id_and_message_count v = go (last_of v.history)
   where
-    go : (o : Option Info) → imported_value (end_of (info_found o)) ≡ counted_end o
+    go : (o : Maybe Info) → imported_value (end_of (info_found o)) ≡ counted_end o
     go none = refl
     go (some i) = refl
 
@@ -133,7 +133,7 @@ module _ (tables area : List ℕ) (t : AnchorsCacheTransaction) (active : t.acti
         let limits = (first_zero _ _ (first_zero _ _ p4.0).0).0 in
         let x = book_fixed h v in
         ap
-        (λ (i : Imported). let y = fixed_of h.reader h.mode i (length h.out) in ranges_read (window_read tables area t h.routes y) y (at_entry h.reader.reader_state))
+        (λ (i : Option ExternalKey). let y = fixed_of h.reader h.mode i (length h.out) in ranges_read (window_read tables area t h.routes y) y (at_entry h.reader.reader_state))
         (the_last_imported_entry_is_the_history's_last tables area t.cache)
         ∙ two_ways_to_read_a_range_that_agree_read_all_alike (window_read tables area t h.routes x) (book_range h.routes x v) x (a_range_is_read_as_in_the_book h.routes x p2.0 p3.0 limits)
         (at_entry h.reader.reader_state)

@@ -10,7 +10,7 @@ use borrow.Author.Tests.{ne_eqb}
 use Rattle.rows.proofs.Laws.{pick_yes, pick_no}
 use Rattle.messages_buffer.specs.Fullness.{first_no}
 use Rattle.anchors_cache.specs.declared.AnchorsCacheTransaction.{AnchorsCacheTransaction}
-use Rattle.anchors_cache.specs.declared.Done.{Done}
+use Rattle.anchors_cache.specs.Answers.{Done}
 use Rattle.cache_rules.specs.Rules.{Cache, area_bytes}
 use Rattle.anchors_cache.specs.Tables.{view}
 use Rattle.anchors_cache.specs.Calls.{on_zero, pop_call, trim_call, last_info_call, info_at_ct_call, last_id_call, get_call, pending_call, pending_in_range_call}
@@ -18,12 +18,12 @@ use Rattle.cache_laws.specs.Book.{Book, Area, same, short, lend, Call, reading}
 use Rattle.cache_laws.specs.Entries.{popping, trimming, Question, last_info, info_at, last_id, get_at, is_pending, is_pending_up_to, asking}
 use Rattle.cache_laws.proofs.Values.{a_pop_answers_the_front_anchor, get_answers_the_anchor_at_its_index, a_trim_answers_the_last_entry_that_is_left, the_last_imported_entry_is_the_last_of_the_history, the_entry_at_ct_is_the_rule's, the_last_id_and_time_are_those_of_the_last_entry, pending_is_that_of_the_cache, pending_in_range_is_the_rule's}
 use Rattle.cache_laws.proofs.Claim.{Stands, Follows, Simulates}
-use Rattle.range_rules.specs.declared.RangeRead.{RangeRead}
+use Rattle.range_rules.specs.Walks.{RangeRead}
 use Rattle.range_rules.specs.Rules.{Outcome}
 use Rattle.range_reader.specs.Calls.{asked_number, range_read, read_answer, read_call}
 use Rattle.range_laws.specs.OneRange.{Handed, book_steps, book_read_number, read_on_window}
 use Rattle.externals_reader.specs.Calls.{asked_of_read, all_ranges_read, ReadAllResult, unchanged, all_result}
-use Rattle.reader_rules.specs.declared.RangesRead.{RangesRead}
+use Rattle.reader_rules.specs.Turns.{RangesRead}
 use Rattle.reader_laws.specs.AllRanges.{HandedAll, book_all_read, book_all_number, book_all_pops, read_all_on_window}
 use Rattle.reader_laws.specs.Answers.{Answered, anchor, entry, id_with_time, flag, Reply, pop_reply, trim_reply, question_reply, range_answered, range_reply, all_answered, nothing_told, all_reply, lend_reply}
 use Rattle.reader_laws.proofs.Entered.{asked_same, all_same}

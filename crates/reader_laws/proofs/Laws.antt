@@ -14,7 +14,7 @@ use Rattle.shard_ident.specs.Shard.{shard_number}
 use Rattle.router.specs.Router.{routes_number}
 use Rattle.messages_buffer.specs.Fullness.{every, partitions_number, limited_number, first_no}
 use Rattle.anchors_cache.specs.declared.AnchorsCacheTransaction.{AnchorsCacheTransaction}
-use Rattle.anchors_cache.specs.declared.Done.{Done}
+use Rattle.anchors_cache.specs.Answers.{Done}
 use Rattle.cache_rules.specs.Rules.{Anchor, Cache, Info, ask, last_of, drop_stale, pop_from, pop_front, area_bytes}
 use Rattle.anchors_cache.specs.Tables.{view}
 use Rattle.anchors_cache.specs.Windows.{popped_times}
@@ -30,7 +30,7 @@ use Rattle.range_laws.proofs.Laws as one-range
 use Rattle.reader_rules.specs.declared.ExternalsReader.{ExternalsReader}
 use Rattle.reader_rules.specs.declared.GetNextMessageGroupMode.{GetNextMessageGroupMode}
 use Rattle.reader_rules.specs.declared.Fixed.{Fixed}
-use Rattle.reader_rules.specs.declared.RangesRead.{RangesRead}
+use Rattle.reader_rules.specs.Turns.{RangesRead}
 use Rattle.reader_rules.specs.State.{no_range, sound_ranges_from, state_number, settled_number}
 use Rattle.reader_rules.specs.Rules.{OneRange, next_range, ranges_read, fixed_of, at_entry}
 use Rattle.externals_reader.specs.Calls.{asked_of_read, told_by, window_read, imported_in, all_ranges_read, ReadAllResult, unchanged, all_result, read_all_call}

@@ -1,5 +1,6 @@
 -- One reader with two ranges, and what each call but the read answers of it, computed. What a range or the reader
 -- keeps is seen in the same answers: they are whole readers.
+use Rattle.std.specs.Prelude.{None, Some}
 use Prim.Native.Nat.{ℕ}
 use mathlib.Core.Path.{◌≡◌, refl}
 use mathlib.Core.Bool.{Bool, true, false}
@@ -14,7 +15,6 @@ use Rattle.messages_buffer.specs.Fullness.{every, limits_number, partitions_numb
 use Rattle.anchors_cache.specs.declared.AnchorsCacheTransaction.{AnchorsCacheTransaction}
 use Rattle.anchors_cache.specs.Calls.{flag_answer, pending_call}
 use Rattle.range_rules.specs.declared.ExternalsRangeReaderState.{ExternalsRangeReaderState}
-use Rattle.range_rules.specs.declared.LastChainTime.TheVariants.{Nothing, Time}
 use Rattle.range_rules.specs.Rules.{key_at, no_key}
 use Rattle.reader_rules.specs.declared.ExternalsPartitionReaderState.{ExternalsPartitionReaderState}
 use Rattle.reader_rules.specs.declared.ExternalsReader.{ExternalsReader}
@@ -58,7 +58,7 @@ reader limit mark p q len ranges =
       next_chain_time = record { 0 = 3000 };
       msgs_exec_params = record { externals_expire_timeout = record { 0 = 60 }; open_ranges_limit = limit; new_is_some = false };
       buffer_limits_by_partitions = 2 ∷ 2 ∷ replicate 6 65535;
-      reader_state = record { ranges = ranges; len = len; by_partitions = p ∷ q ∷ replicate 6 nowhere; last_read_to_anchor_chain_time = Nothing };
+      reader_state = record { ranges = ranges; len = len; by_partitions = p ∷ q ∷ replicate 6 nowhere; last_read_to_anchor_chain_time = None };
       all_ranges_fully_read = mark;
     }
 
@@ -115,7 +115,7 @@ pub a_reset_clears_the_mark : (reset_call (emptied true 6) ≡ record { number =
 unfolding reset_call state_number sound_ranges_from partitions_number every
 a_reset_clears_the_mark = (refl, refl)
 
-pub the_saved_last_chain_time_is_dropped : drop_last_call (with_state (two 6) (with_last (two 6).reader_state (Time (record { 0 = 2000 })))) ≡ record { number = 0; reader = two 6 }
+pub the_saved_last_chain_time_is_dropped : drop_last_call (with_state (two 6) (with_last (two 6).reader_state (Some (record { 0 = 2000 })))) ≡ record { number = 0; reader = two 6 }
 unfolding drop_last_call state_number sound_ranges_from partitions_number every
 the_saved_last_chain_time_is_dropped = refl
 

@@ -19,7 +19,7 @@ use Rattle.reader_rules.specs.State.{max_ranges, sound_ranges_from, state_number
 use Rattle.reader_rules.specs.Rules.{state_entered, next_range}
 use Rattle.reader_rules.specs.Offsets.{range_at, record_of, reader_partition, last_only, place_of, on_place, on_record, with_count, dropped, skip_raised, from_position, marked, raised_range, finalized, with_held}
 use Rattle.reader_rules.proofs.Kept.{next_fits, new_keeps_question_5, the_last_range_alone_answers_question_5, a_range_from_its_position_keeps_question_5, a_dropped_offset_keeps_question_5, a_raised_skip_offset_keeps_question_5, messages_taken_keep_question_5, finalize_keeps_question_5, held_behind, held_entered, last_seqno, a_range_above_the_last_keeps_question_5}
-use Rattle.externals_reader.specs.declared.ReaderDone.{ReaderDone}
+use Rattle.externals_reader.specs.Answers.{ReaderDone}
 use Rattle.externals_reader.specs.Calls.{changed, new_call, reset_call, drop_last_call, set_limits_call, next_range_call, read_all_call, ReadAllResult}
 use Rattle.externals_reader.proofs.Sound.{sound_parts}
 use Rattle.reader_offsets.specs.Calls.{ranges_of, partitions_of, offset_refusal, finalize_call, retain_call, set_from_call, increment_call, drop_call, set_skip_call, set_processed_call, taken_call}

@@ -1,4 +1,5 @@
 -- Document 02, ticket 7: the free places that a read of all answers, of the call's own answer.
+use Rattle.std.specs.Prelude.{Option}
 use Prim.Native.Nat.{ℕ}
 use mathlib.Core.Path.{◌≡◌, refl, ap}
 use mathlib.Core.Bool.{true, false}
@@ -16,8 +17,7 @@ use Rattle.range_reader.proofs.Kept.{steps_kept}
 use Rattle.reader_rules.specs.declared.ExternalsReader.{ExternalsReader}
 use Rattle.reader_rules.specs.declared.Fixed.{Fixed}
 use Rattle.reader_rules.specs.declared.GetNextMessageGroupMode.{GetNextMessageGroupMode}
-use Rattle.reader_rules.specs.declared.LastFree.{LastFree}
-use Rattle.reader_rules.specs.declared.RangesRead.{RangesRead}
+use Rattle.reader_rules.specs.Turns.{RangesRead}
 use Rattle.reader_rules.specs.State.{max_ranges}
 use Rattle.reader_rules.specs.Rules.{Told, free_value}
 use Rattle.reader_rules.proofs.Reported.{Reported, Reports, the_free_places_told_are_those_of_the_last_range_read}
@@ -34,7 +34,7 @@ window_reports tables area t routes x pops mode range room =
     (λ z. (steps_kept tables area before x.shard routes x.limits x.processed x.params.externals_expire_timeout mode range room z).within.free)
 
 module _ (tables area : List ℕ) (t : AnchorsCacheTransaction) (routes : List ℕ) (r : ExternalsReader) (mode : GetNextMessageGroupMode) (out : List ℕ) where
-  abbrev free : LastFree
+  abbrev free : Option ℕ
   free = (read_all_call tables area t routes r mode out).answer.free
 
   -- "is left out if no range was read or the read was refused"

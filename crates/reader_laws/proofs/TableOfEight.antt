@@ -30,7 +30,7 @@ use Rattle.cache_laws.proofs.Views.{view_popped}
 use Rattle.cache_laws.proofs.Kept.{popped_parts, holds_view}
 use Rattle.cache_laws.proofs.Claim.{open_asked}
 use Rattle.range_rules.specs.declared.ReadNextExternalsMode.TheVariants.{ToTheEnd}
-use Rattle.range_rules.specs.declared.Verdict.TheVariants.{Keep, Buffer}
+use Rattle.range_rules.specs.Walks.{Keep, Buffer}
 use Rattle.range_rules.specs.Rules.{key_at, no_key, judge, advanced, stopped, refused_with, read_one, buffered, buffer_one, entry_bytes, our_read, message_read, messages_read, looked, expired, finished, anchor_read, anchors_read}
 use Rattle.range_laws.specs.OneRange.{Handed, book_steps, book_read_number}
 use Rattle.reader_laws.specs.Steps.{Step, pop, commit, rollback, call}

@@ -1,22 +1,22 @@
 -- The read of all ranges as the book counts it: its number from the questions on what it is handed and on the book's
 -- two caches, its pops by the rules on the present one.
-use Rattle.std.specs.Prelude.{ℕ, true, List, [], ◌∷◌, length}
+use Rattle.ext_types.specs.declared.ExternalKey.{ExternalKey}
+use Rattle.std.specs.Prelude.{ℕ, true, List, [], ◌∷◌, length, Option}
 use Rattle.rows.specs.Rows.{pick}
 use Rattle.messages_buffer.specs.Fullness.{partitions_number, limited_number, first_no}
 use Rattle.anchors_cache.specs.declared.AnchorsCacheTransaction.{AnchorsCacheTransaction}
-use Rattle.anchors_cache.specs.declared.Done.{Done}
+use Rattle.anchors_cache.specs.Answers.{Done}
 use Rattle.cache_rules.specs.Rules.{Cache, last_of}
 use Rattle.anchors_cache.specs.Calls.{info_found, closed_transaction}
 use Rattle.cache_laws.specs.Book.{asked_of_caches, pop_times}
-use Rattle.range_rules.specs.declared.RangeRead.{RangeRead}
+use Rattle.range_rules.specs.Walks.{RangeRead}
 use Rattle.range_rules.specs.declared.ExternalsRangeReaderState.{ExternalsRangeReaderState}
 use Rattle.range_rules.specs.declared.ReadNextExternalsMode.{ReadNextExternalsMode}
 use Rattle.range_rules.specs.Rules.{six_steps, Outcome, context_of}
 use Rattle.reader_rules.specs.declared.ExternalsReader.{ExternalsReader}
 use Rattle.reader_rules.specs.declared.GetNextMessageGroupMode.{GetNextMessageGroupMode}
-use Rattle.reader_rules.specs.declared.Imported.{Imported}
 use Rattle.reader_rules.specs.declared.Fixed.{Fixed}
-use Rattle.reader_rules.specs.declared.RangesRead.{RangesRead}
+use Rattle.reader_rules.specs.Turns.{RangesRead}
 use Rattle.reader_rules.specs.State.{all_questions}
 use Rattle.reader_rules.specs.Rules.{OneRange, ranges_read, fixed_of, at_entry}
 use Rattle.externals_reader.specs.Calls.{end_of, told_by, read_all_call}
@@ -29,7 +29,7 @@ pub record HandedAll : Type 0 where
   pub out : List ℕ
 
 -- Document 01: "the last imported entry's id and message count", where history is nonempty
-abbrev pub imported_of : Cache → Imported
+abbrev pub imported_of : Cache → Option ExternalKey
 imported_of v = end_of (info_found (last_of v.history))
 
 abbrev pub book_fixed : HandedAll → Cache → Fixed

@@ -1,6 +1,6 @@
 -- What each call of a list answers beside its number, in document 01's values: on the window what its contract says, in
 -- the book a function of the present cache.
-use Rattle.std.specs.Prelude.{ℕ, Bool, false, List, [], ◌∷◌, map, length, drop}
+use Rattle.std.specs.Prelude.{ℕ, Bool, false, List, [], ◌∷◌, map, length, drop, None}
 use Rattle.std.proofs.Math.Option.{Option, none}
 use Rattle.std.proofs.lemmas.List.Edits.{sets}
 use Rattle.rows.specs.Rows.{pick}
@@ -11,14 +11,13 @@ use Rattle.anchors_cache.specs.Calls.{on_zero, pop_call, trim_call, last_info_ca
 use Rattle.cache_laws.specs.Book.{Book, Area, lent, enter}
 use Rattle.cache_laws.specs.Entries.{Question, last_info, info_at, last_id, get_at, is_pending, is_pending_up_to}
 use Rattle.range_rules.specs.declared.ReadCounts.{ReadCounts}
-use Rattle.range_rules.specs.declared.RangeRead.{RangeRead}
+use Rattle.range_rules.specs.Walks.{RangeRead}
 use Rattle.range_rules.specs.declared.ExternalsRangeReaderState.{ExternalsRangeReaderState}
-use Rattle.range_rules.specs.declared.LastChainTime.TheVariants.{Nothing}
 use Rattle.range_rules.specs.Rules.{range_after, no_counts}
 use Rattle.range_reader.specs.Calls.{ReadResult, read_call}
 use Rattle.range_laws.specs.OneRange.{Handed, book_steps}
 use Rattle.reader_rules.specs.declared.ExternalsReader.{ExternalsReader}
-use Rattle.reader_rules.specs.declared.RangesRead.{RangesRead}
+use Rattle.reader_rules.specs.Turns.{RangesRead}
 use Rattle.reader_rules.specs.State.{with_state, with_mark}
 use Rattle.reader_rules.specs.Rules.{Told, time_saved, free_value}
 use Rattle.externals_reader.specs.Calls.{told, ReadAllResult, read_all_call}
@@ -122,7 +121,7 @@ done_told range r =
 
 -- "A refusal gives only the number"
 abbrev refused_told : ExternalsRangeReaderState → ℕ → Told
-refused_told range n = record { number = n; free = 0; pops = 0; used = 0; last = Nothing; counts = no_counts; range = range }
+refused_told range n = record { number = n; free = 0; pops = 0; used = 0; last = None; counts = no_counts; range = range }
 
 abbrev pub range_reply : Handed → Reply
 range_reply h =

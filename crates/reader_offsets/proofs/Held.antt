@@ -1,9 +1,8 @@
 -- The ranges held as a list, and a table whose first slots hold a list.
-use Prim.Native.Nat.{ℕ, suc, zero, ◌+◌, ◌-◌, ◌≤◌, ◌<◌}
-use mathlib.Core.Path.{◌≡◌, refl, sym, ap, ◌∙◌}
-use mathlib.Core.List.{List, [], ◌∷◌, ◌++◌, map}
+use Prim.Native.Nat.{ℕ, ◌-◌, ◌≤◌, ◌<◌}
+use mathlib.Core.Path.{◌≡◌, sym, ap, ◌∙◌}
+use mathlib.Core.List.{List, ◌++◌}
 use native.Mathlib.Omega.{arith}
-use native.Mathlib.Numerals.{add-one}
 use lib.ListN.{length, get_or, take, drop, set, length-set, take-append-drop, get_or-eq_default}
 use lib.Seq.{length-take-le, get_or-take, take-set-lt, drop-set-lt}
 use Rattle.range_rules.specs.declared.ExternalsRangeReaderState.{ExternalsRangeReaderState}
@@ -44,12 +43,3 @@ module _ (s : ExternalsReader) where
       _
       (sym (length-set (held_ranges s.reader_state) i r ∙ held_length s.reader_state.ranges s.reader_state.len fits))
       (set_held s.reader_state.ranges s.reader_state.len fits i r h)
-
--- ---- a table changed slot by slot
-map_suc : {A : Type 0} (f : A → A) (d : A) (l : List A) (i : ℕ) → i < length l → set (map f (take i l) ++ drop i l) i (f (get_or l i d)) ≡ map f (take (suc i) l) ++ drop (suc i) l
-map_suc f d [] i h = absurd (omega arith)
-map_suc f d (x ∷ l) zero h = refl
-map_suc {A = A} f d (x ∷ l) (suc i) h = ap (λ (m : List A). f x ∷ m) (map_suc f d l i (omega arith))
-
-pub map_next : {A : Type 0} (f : A → A) (d : A) (l m : List A) (i : ℕ) (y : A) → i < length l → m ≡ map f (take i l) ++ drop i l → y ≡ f (get_or l i d) → set m i y ≡ map f (take (i + 1) l) ++ drop (i + 1) l
-map_next f d l m i y h e q = rw (add-one i, e, q) (map_suc f d l i h)

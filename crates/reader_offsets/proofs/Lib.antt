@@ -1,5 +1,5 @@
 pub mod Numbers
-pub mod Records
 pub mod Windows
 pub mod Held
 pub mod Changes
+pub mod Shown

@@ -10,12 +10,12 @@ use Rattle.anchors_cache.proofs.Asked.{on_not}
 use Rattle.rows.specs.Rows.{pick}
 use Rattle.rows.proofs.Laws.{pick_yes, pick_no}
 use Rattle.messages_buffer.specs.Fullness.{first_no}
-use Rattle.anchors_cache.specs.declared.FlagAnswer.{FlagAnswer}
+use Rattle.anchors_cache.specs.Answers.{FlagAnswer}
 use Rattle.anchors_cache.specs.Calls.{on_zero, flag_answer}
 use Rattle.messages_buffer.proofs.Laws.{first_no_lem, first_yes, first_alone}
 use Rattle.externals_reader.specs.Calls.{changed}
 use Rattle.reader_rules.specs.declared.ExternalsReader.{ExternalsReader}
-use Rattle.reader_rules.specs.declared.ByPartitions.{ByPartitions}
+use Rattle.reader_rules.specs.Offsets.{ByPartitions}
 use Rattle.reader_offsets.specs.Calls.{sound_number, offset_refusal, partitions_answer}
 
 pub a_refused_call_leaves_the_reader : (number : ℕ) (s after : ExternalsReader) → (number ≡ 0 → ⊥) → (changed number s after).reader ≡ s

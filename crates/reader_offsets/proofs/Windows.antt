@@ -1,85 +1,71 @@
--- Loops over the partitions and over a part of the ranges: a turn, and the end.
-use Prim.Native.Nat.{ℕ, suc, zero, ◌+◌, ◌-◌, ◌≤◌, ◌<◌}
+-- Chains over the partitions and over ranges, as the definitions say them, and the loop of a tally.
+use Prim.Native.Nat.{ℕ, suc, zero, ◌+◌, ◌≤◌, ◌<◌}
 use mathlib.Core.Path.{◌≡◌, refl, sym, ap, ◌∙◌}
-use mathlib.Core.Bool.{Bool, true, false, ◌&&◌}
-use mathlib.Core.List.{List, []}
+use mathlib.Core.Bool.{Bool, true, false, not, cond, ◌&&◌}
+use mathlib.Core.List.{List, [], ◌∷◌}
 use native.Mathlib.Omega.{arith}
 use native.Mathlib.Numerals.{add-one}
-use lib.Dec.{eqb}
-use lib.ListN.{length, get_or}
-use borrow.Author.Tests.{eqb-true, eqb-false}
-use Rattle.rows.specs.Rows.{pick, part}
-use Rattle.rows.proofs.Laws.{part_cons, pick_yes, pick_no, no_later}
+use lib.Dec.{eqb, ltb}
+use Rattle.std.specs.Option.{unwrap_or}
+use Rattle.std.specs.Prelude.{Option, Some, None}
+use Rattle.std.proofs.lemmas.Bool.Decides.{nat_tests}
+use Rattle.std.proofs.lemmas.List.Sums.{prefix_len-le-length}
+use Rattle.rows.specs.Rows.{pick}
+use lib.ListN.{length, get_or, drop, drop_of_length-le}
+use lib.Seq.{drop-cons}
+use Rattle.std.specs.List.{zip, list_all, position_or_len}
 use Rattle.messages_buffer.specs.Fullness.{every}
 use Rattle.range_rules.specs.declared.ExternalsRangeReaderState.{ExternalsRangeReaderState}
 use Rattle.reader_rules.specs.State.{no_range}
 use Rattle.reader_rules.specs.declared.Tally.{Tally}
 use Rattle.reader_rules.specs.Offsets.{all_below, record_of, tallied, tally_from, place_of}
 
--- ---- 0, 1, .. below n
-pub below_none : (f : ℕ → Bool) → all_below 0 f ≡ true
-unfolding all_below
-below_none f = refl
-
-pub below_next : (f : ℕ → Bool) (i : ℕ) → all_below i f ≡ true → f i ≡ true → all_below (i + 1) f ≡ true
-unfolding all_below
-below_next f i e g = rw (add-one i, e, g)
-
-pub below_fail : (f : ℕ → Bool) (n i : ℕ) → i < n → f i ≡ false → all_below n f ≡ false
-unfolding all_below
-below_fail f zero i h e = absurd (omega arith)
-below_fail f (suc n) i h e = go (eqb i n) refl (λ g. below_fail f n i g e)
-  where
-    go : (b : Bool) → eqb i n ≡ b → (i < n → all_below n f ≡ false) → (all_below n f && f n) ≡ false
-    go true q k = rw (sym (ap f (eqb-true i n q)) ∙ e) (sym (no_later (all_below n f) false refl))
-    go false q k = rw (k (let g = eqb-false i n q in omega arith))
-
--- ---- a test of each
-module _ {A : Type 0} (f : A → Bool) (d : A) (xs : List A) (at left : ℕ) (h : 0 < left) (g : at + left ≤ length xs) where
-  every_step : every f (part at left xs) ≡ f (get_or xs at d) && every f (part (at + 1) (left - 1) xs)
-  unfolding every
-  every_step = rw (part_cons d xs at left h g)
-
-  pub every_fail : f (get_or xs at d) ≡ false → every f (part at left xs) ≡ false
-  every_fail e = rw (every_step, e)
-
-  pub every_next : f (get_or xs at d) ≡ true → every f (part (at + 1) (left - 1) xs) ≡ every f (part at left xs)
-  every_next e = rw (every_step, e)
-
-pub every_end : {A : Type 0} (f : A → Bool) (xs : List A) (at left : ℕ) → left ≤ 0 → every f (part at left xs) ≡ true
+pub every_listed : {A : Type 0} (f : A → Bool) (l : List A) → list_all f l ≡ every f l
 unfolding every
-every_end f xs at zero h = refl
-every_end f xs at (suc n) h = absurd (omega arith)
+every_listed f [] = refl
+every_listed f (x ∷ l) = ap (λ (b : Bool). f x && b) (every_listed f l)
 
--- ---- what they hold of a partition, and the place of a seqno
-module _ (xs : List ExternalsRangeReaderState) (at left : ℕ) (h : 0 < left) (g : at + left ≤ length xs) where
-  pub tally_next : (i : ℕ) (t : Tally) → tally_from i (tallied t (record_of i (get_or xs at no_range))) (part (at + 1) (left - 1) xs) ≡ tally_from i t (part at left xs)
+-- ---- 0, 1, .. below n, from the front
+below_front : (n : ℕ) (f : ℕ → Bool) → all_below (suc n) f ≡ (f 0 && all_below n (λ i. f (suc i)))
+unfolding all_below
+below_front zero f = go (f 0)
+  where
+    go : (b : Bool) → b ≡ (b && true)
+    go true = refl
+    go false = refl
+below_front (suc n) f = rw (below_front n f) (go (f 0) (all_below n (λ i. f (suc i))) (f (suc n)))
+  where
+    go : (a b d : Bool) → ((a && b) && d) ≡ (a && (b && d))
+    go true b d = refl
+    go false b d = refl
+
+pub below_listed : {A B : Type 0} (g : A → B → Bool) (a : A) (b : B) (l : List A) (m : List B) → length m ≡ length l → list_all (λ p. g p.0 p.1) (zip l m) ≡ all_below (length l) (λ i. g (get_or l i a) (get_or m i b))
+unfolding all_below
+below_listed g a b [] m e = refl
+below_listed g a b (x ∷ l) [] e = absurd (omega arith)
+below_listed g a b (x ∷ l) (y ∷ m) e =
+    ap (λ (z : Bool). g x y && z) (below_listed g a b l m (omega arith)) ∙ sym (below_front (length l) (λ i. g (get_or (x ∷ l) i a) (get_or (y ∷ m) i b)))
+
+-- ---- the place of a seqno
+pub place_listed : (seqno : ℕ) (l : List ExternalsRangeReaderState) → position_or_len (λ r. eqb r.seqno seqno) l ≡ place_of seqno l
+unfolding place_of
+place_listed seqno [] = refl
+place_listed seqno (r ∷ l) = rw (place_listed seqno l) (go (eqb r.seqno seqno))
+  where
+    go : (b : Bool) → cond (not b) (1 + place_of seqno l) 0 ≡ pick b 0 (suc (place_of seqno l))
+    go true = refl
+    go false = omega arith
+
+pub place_found : (seqno len : ℕ) (l : List ExternalsRangeReaderState) (found : Option ℕ) → length l ≡ len
+    → found ≡ cond (ltb (position_or_len (λ r. eqb r.seqno seqno) l) (length l)) (Some (position_or_len (λ r. eqb r.seqno seqno) l)) None → unwrap_or found len ≡ place_of seqno l
+place_found seqno len l found e f = let h = prefix_len-le-length (λ r. not (eqb r.seqno seqno)) l in grind (arith, nat_tests, place_listed)
+
+-- ---- what ranges hold of a partition: a turn, and the end
+module _ (xs : List ExternalsRangeReaderState) (at i : ℕ) (t : Tally) where
+  pub tally_next : at < length xs → tally_from i t (drop at xs) ≡ tally_from i (tallied t (record_of i (get_or xs at no_range))) (drop (at + 1) xs)
   unfolding tally_from
-  tally_next i t = rw (part_cons no_range xs at left h g)
+  tally_next h = rw (add-one at, drop-cons xs at no_range h)
 
-  place_step : (seqno : ℕ) → place_of seqno (part at left xs) ≡ pick (eqb (get_or xs at no_range).seqno seqno) 0 (suc (place_of seqno (part (at + 1) (left - 1) xs)))
-  unfolding place_of
-  place_step seqno = rw (part_cons no_range xs at left h g)
-
-  pub place_here : (seqno : ℕ) → eqb (get_or xs at no_range).seqno seqno ≡ true → at + place_of seqno (part at left xs) ≡ at
-  place_here seqno e = let q = place_step seqno ∙ pick_yes _ _ _ e in omega (arith, q)
-
-  pub place_next : (seqno : ℕ) → eqb (get_or xs at no_range).seqno seqno ≡ false → at + 1 + place_of seqno (part (at + 1) (left - 1) xs) ≡ at + place_of seqno (part at left xs)
-  place_next seqno e = let q = place_step seqno ∙ pick_no _ _ _ e in omega (arith, q)
-
-module _ (xs : List ExternalsRangeReaderState) (at left : ℕ) (h : left ≤ 0) where
-  pub tally_end : (i : ℕ) (t : Tally) → tally_from i t (part at left xs) ≡ t
+  pub tally_end : length xs ≤ at → tally_from i t (drop at xs) ≡ t
   unfolding tally_from
-  tally_end i t = rw (nothing left h)
-    where
-      nothing : (k : ℕ) → k ≤ 0 → part at k xs ≡ []
-      nothing zero q = refl
-      nothing (suc k) q = absurd (omega arith)
-
-  pub place_end : (seqno : ℕ) → place_of seqno (part at left xs) ≡ 0
-  unfolding place_of
-  place_end seqno = rw (nothing left h)
-    where
-      nothing : (k : ℕ) → k ≤ 0 → part at k xs ≡ []
-      nothing zero q = refl
-      nothing (suc k) q = absurd (omega arith)
+  tally_end h = rw (drop_of_length-le xs h)

@@ -3,17 +3,17 @@
 use Rattle.std.specs.Prelude.{ℕ, ◌+◌, ◌-◌, Bool, true, false, not, ◌&&◌, ◌||◌, List, [], ◌∷◌, leb, ltb, replicate}
 use Rattle.messages_buffer.specs.Fullness.{first_no}
 use Rattle.anchors_cache.specs.declared.AnchorsCacheTransaction.{AnchorsCacheTransaction}
-use Rattle.anchors_cache.specs.declared.FlagAnswer.{FlagAnswer}
+use Rattle.anchors_cache.specs.Answers.{FlagAnswer}
 use Rattle.cache_rules.specs.Rules.{ask}
 use Rattle.anchors_cache.specs.Calls.{on_zero, flag_answer}
 use Rattle.anchors_cache.specs.Calls as cache
 use Rattle.range_rules.specs.declared.ExternalsRangeReaderState.{ExternalsRangeReaderState}
 use Rattle.reader_rules.specs.declared.ExternalsPartitionReaderState.{ExternalsPartitionReaderState}
 use Rattle.reader_rules.specs.declared.ExternalsReader.{ExternalsReader}
-use Rattle.externals_reader.specs.declared.ReaderDone.{ReaderDone}
+use Rattle.externals_reader.specs.Answers.{ReaderDone}
 use Rattle.reader_rules.specs.State.{settled_number, with_mark, held_ranges, state_number, open_ranges_limit_of}
 use Rattle.externals_reader.specs.Calls.{changed}
-use Rattle.reader_rules.specs.declared.ByPartitions.{ByPartitions}
+use Rattle.reader_rules.specs.Offsets.{ByPartitions}
 use Rattle.reader_rules.specs.declared.PartitionTest.TheVariants.{InRange, InReader, Unprocessed, Empty, Reached, Collected}
 use Rattle.reader_rules.specs.Offsets.{reader_partition, record_of, range_at, last_range, last_only, place_of, on_place, on_last, meets, ranges_meet, all_fully_read, shown_by, with_count, dropped, skip_raised, with_offset, with_processed_to, on_record, from_position, finalized, with_held, on_partition}
 

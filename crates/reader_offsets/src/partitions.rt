@@ -2,7 +2,7 @@
 ghost use Rattle.std.specs.Prelude.{◌≡◌, not, ◌||◌};
 ghost use Rattle.reader_rules.specs.Offsets.{reader_partition, record_at, collected, meets, partitions_meet, dropped, skip_raised, offset_raised, with_record, with_partition};
 
-use messages_buffer::ExternalsPartitionRangeReaderState;
+use messages_buffer::{ExternalsPartitionRangeReaderState, NO_PARTITION};
 use range_rules::ExternalsRangeReaderState;
 use reader_rules::{ExternalsPartitionReaderState, ExternalsReader, PartitionTest};
 
@@ -13,15 +13,14 @@ pub(crate) fn partition_at(
 ) -> ExternalsPartitionReaderState
     ensures { result ≡ reader_partition par_id partitions }
 {
-    if 7 < par_id {
-        return ExternalsPartitionReaderState {
+    partitions
+        .get(par_id as usize)
+        .copied()
+        .unwrap_or(ExternalsPartitionReaderState {
             processed_to: ext_types::NO_KEY,
             curr_processed_offset: 0,
             present: false,
-        };
-    }
-    let at = par_id as usize;
-    partitions[at]
+        })
 }
 
 // A range's record of a partition; one above 7 is absent.
@@ -31,16 +30,10 @@ pub(crate) fn record_at(
 ) -> ExternalsPartitionRangeReaderState
     ensures { result ≡ record_at par_id records }
 {
-    if 7 < par_id {
-        return ExternalsPartitionRangeReaderState {
-            count: 0,
-            skip_offset: 0,
-            processed_offset: 0,
-            present: false,
-        };
-    }
-    let at = par_id as usize;
-    records[at]
+    records
+        .get(par_id as usize)
+        .copied()
+        .unwrap_or(NO_PARTITION)
 }
 
 pub(crate) fn with_partition(
@@ -50,14 +43,10 @@ pub(crate) fn with_partition(
 ) -> ExternalsReader
     ensures { result ≡ with_partition par_id partition reader }
 {
-    if 7 < par_id {
-        return reader;
-    }
-    let at = par_id as usize;
-    let mut state = reader.reader_state;
-    state.by_partitions[at] = partition;
     let mut next = reader;
-    next.reader_state = state;
+    if par_id < 8 {
+        next.reader_state.by_partitions[par_id as usize] = partition;
+    }
     next
 }
 
@@ -68,22 +57,17 @@ pub(crate) fn with_record(
 ) -> ExternalsRangeReaderState
     ensures { result ≡ with_record par_id partition range }
 {
-    if 7 < par_id {
-        return range;
-    }
-    let at = par_id as usize;
     let mut next = range;
-    next.by_partitions[at] = partition;
+    if par_id < 8 {
+        next.by_partitions[par_id as usize] = partition;
+    }
     next
 }
 
 fn implies(a: bool, b: bool) -> bool
     ensures { result ≡ (not a || b) }
 {
-    if !a {
-        return true;
-    }
-    b
+    !a || b
 }
 
 pub(crate) fn meets(
@@ -94,25 +78,17 @@ pub(crate) fn meets(
     ensures { result ≡ meets test partition held }
 {
     match test {
-        PartitionTest::InRange => {
-            return implies(partition.present, held.present);
-        }
-        PartitionTest::InReader => {
-            return implies(held.present, partition.present);
-        }
-        PartitionTest::Unprocessed => {
-            return implies(held.present, held.processed_offset == 0);
-        }
-        PartitionTest::Empty => {
-            return implies(held.present, held.count == 0);
-        }
+        PartitionTest::InRange => implies(partition.present, held.present),
+        PartitionTest::InReader => implies(held.present, partition.present),
+        PartitionTest::Unprocessed => implies(held.present, held.processed_offset == 0),
+        PartitionTest::Empty => implies(held.present, held.count == 0),
         PartitionTest::Reached => {
-            let reached = held.processed_offset <= partition.curr_processed_offset;
-            return implies(held.present, reached);
+            implies(
+                held.present,
+                held.processed_offset <= partition.curr_processed_offset,
+            )
         }
-        PartitionTest::Collected => {
-            return is_collected(partition, held);
-        }
+        PartitionTest::Collected => is_collected(partition, held),
     }
 }
 
@@ -122,16 +98,12 @@ fn is_collected(
 ) -> bool
     ensures { result ≡ collected partition held }
 {
-    if !held.present {
-        return true;
-    }
-    if held.count != 0 {
-        return false;
-    }
-    if !partition.present {
-        return held.skip_offset == 0;
-    }
-    held.skip_offset <= partition.curr_processed_offset
+    let offset = if partition.present {
+        partition.curr_processed_offset
+    } else {
+        0
+    };
+    implies(held.present, held.count == 0 && held.skip_offset <= offset)
 }
 
 pub(crate) fn every_partition(
@@ -141,16 +113,10 @@ pub(crate) fn every_partition(
 ) -> bool
     ensures { result ≡ partitions_meet test partitions records }
 {
-    let mut i = 0;
-    while i < 8 {
-        let p = partitions[i];
-        let x = records[i];
-        if !meets(test, p, x) {
-            return false;
-        }
-        i += 1;
-    }
-    true
+    partitions
+        .iter()
+        .zip(&records)
+        .all(|(p, x)| meets(test, *p, *x))
 }
 
 pub(crate) fn dropped(
@@ -159,13 +125,15 @@ pub(crate) fn dropped(
 ) -> ExternalsPartitionRangeReaderState
     ensures { result ≡ dropped drop_skip_offset held }
 {
-    let mut next = held;
-    next.processed_offset = 0;
-    if !drop_skip_offset {
-        return next;
+    ExternalsPartitionRangeReaderState {
+        processed_offset: 0,
+        skip_offset: if drop_skip_offset {
+            0
+        } else {
+            held.skip_offset
+        },
+        ..held
     }
-    next.skip_offset = 0;
-    next
 }
 
 pub(crate) fn skip_raised(
@@ -177,10 +145,11 @@ pub(crate) fn skip_raised(
     if offset <= held.processed_offset {
         return held;
     }
-    let mut next = held;
-    next.processed_offset = offset;
-    next.skip_offset = offset;
-    next
+    ExternalsPartitionRangeReaderState {
+        processed_offset: offset,
+        skip_offset: offset,
+        ..held
+    }
 }
 
 // `greatest`: the greatest processed offset of the partition in all ranges.
@@ -191,13 +160,11 @@ pub(crate) fn raised(
 ) -> ExternalsPartitionRangeReaderState
     ensures { result ≡ offset_raised partition greatest held }
 {
-    if !partition.present {
+    if !partition.present || partition.curr_processed_offset <= greatest {
         return held;
     }
-    if partition.curr_processed_offset <= greatest {
-        return held;
+    ExternalsPartitionRangeReaderState {
+        processed_offset: partition.curr_processed_offset,
+        ..held
     }
-    let mut next = held;
-    next.processed_offset = partition.curr_processed_offset;
-    next
 }

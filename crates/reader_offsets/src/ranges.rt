@@ -1,16 +1,18 @@
 // The ranges that a reader holds: tests of them, what they hold of a partition, and changes of them.
-ghost use Rattle.std.specs.Prelude.{ℕ, ◌+◌, ◌-◌, ◌<◌, ◌≤◌, ◌≡◌, map, ◌++◌, take, drop, set};
+ghost use Rattle.std.specs.Prelude.{Ok, ℕ, ◌+◌, ◌-◌, ◌<◌, ◌≤◌, ◌≡◌, map, ◌++◌, take, drop, set};
 ghost use Rattle.rows.specs.Rows.{part};
 ghost use Rattle.reader_rules.specs.State.{held_ranges, max_ranges};
-ghost use Rattle.reader_rules.specs.Offsets.{ranges_meet, all_fully_read, tallied, tally_of, shown, shown_by, marked, raised_range, place_of, with_ranges, with_held, record_of, range_at, last_range, with_record, on_place};
+ghost use Rattle.reader_offsets.specs.Answers.{by_partitions_of, shown_if_present};
+ghost use Rattle.reader_rules.specs.Offsets.{ranges_meet, all_fully_read, tallied, tally_of, shown_by, marked, raised_range, place_of, with_ranges, with_held, record_of, range_at, last_range, with_record, on_place};
 
 use crate::partitions;
-use messages_buffer::ExternalsPartitionRangeReaderState;
+use messages_buffer::{ExternalsPartitionRangeReaderState, NO_PARTITION};
 use range_rules::ExternalsRangeReaderState;
 use reader_rules::{
-    ByPartitions, ExternalsPartitionReaderState, ExternalsReader, ExternalsReaderState, MAX_RANGES,
+    ExternalsPartitionReaderState, ExternalsReader, ExternalsReaderState, MAX_RANGES,
     PartitionTest, Tally,
 };
+use std::array;
 
 // Whether each of `n` ranges from `first` on meets the test in each partition.
 pub(crate) fn every_range(
@@ -23,44 +25,23 @@ pub(crate) fn every_range(
     requires { first + n ≤ max_ranges }
     ensures { result ≡ ranges_meet test partitions (part first n ranges) }
 {
-    let mut at = first;
-    let mut left = n;
-    while 0 < left {
-        let range = ranges[at];
-        let records = range.by_partitions;
-        if !partitions::every_partition(test, partitions, records) {
-            return false;
-        }
-        at += 1;
-        left -= 1;
-    }
-    true
+    ranges[first..first + n].iter().all(|range| {
+        partitions::every_partition(test, partitions, range.by_partitions)
+    })
 }
 
 pub(crate) fn all_fully_read(ranges: [ExternalsRangeReaderState; MAX_RANGES], len: usize) -> bool
     requires { len ≤ max_ranges }
     ensures { result ≡ all_fully_read (take len ranges) }
 {
-    let mut at = 0;
-    let mut left = len;
-    while 0 < left {
-        let range = ranges[at];
-        if !range.fully_read {
-            return false;
-        }
-        at += 1;
-        left -= 1;
-    }
-    true
+    ranges[..len].iter().all(|range| range.fully_read)
 }
 
 pub(crate) fn last_range(state: ExternalsReaderState) -> ExternalsRangeReaderState
     requires { (0 < state.len) × (state.len ≤ max_ranges) }
     ensures { result ≡ last_range (held_ranges state) }
 {
-    let at = state.len - 1;
-    let ranges = state.ranges;
-    ranges[at]
+    state.ranges[state.len - 1]
 }
 
 // A range's record of a partition; at a place without a range it is absent.
@@ -73,17 +54,9 @@ pub(crate) fn record_of(
     ensures { result ≡ record_of par_id (range_at at (held_ranges state)) }
 {
     if state.len <= at {
-        return ExternalsPartitionRangeReaderState {
-            count: 0,
-            skip_offset: 0,
-            processed_offset: 0,
-            present: false,
-        };
+        return NO_PARTITION;
     }
-    let ranges = state.ranges;
-    let range = ranges[at];
-    let records = range.by_partitions;
-    partitions::record_at(records, par_id)
+    partitions::record_at(state.ranges[at].by_partitions, par_id)
 }
 
 fn tallied(t: Tally, held: ExternalsPartitionRangeReaderState) -> Tally
@@ -93,15 +66,11 @@ fn tallied(t: Tally, held: ExternalsPartitionRangeReaderState) -> Tally
     if !held.present {
         return t;
     }
-    let count = held.count as u64;
-    let mut next = t;
-    next.present = true;
-    next.count = t.count + count;
-    if held.processed_offset <= t.processed {
-        return next;
+    Tally {
+        present: true,
+        count: t.count + held.count as u64,
+        processed: t.processed.max(held.processed_offset),
     }
-    next.processed = held.processed_offset;
-    next
 }
 
 // What `n` ranges from `first` on hold of a partition together.
@@ -119,28 +88,21 @@ fn tally(
         count: 0,
         processed: 0,
     };
-    let mut at = first;
-    let mut left = n;
-    while 0 < left {
-        let range = ranges[at];
-        let records = range.by_partitions;
-        let x = records[par];
-        t = tallied(t, x);
-        at += 1;
-        left -= 1;
+    for range in &ranges[first..first + n] {
+        t = tallied(t, range.by_partitions[par]);
     }
     t
 }
 
-// The number that is answered of a partition: its processed offset, or its count.
-fn shown(t: Tally, offsets: bool) -> u32
+// The number that is answered of a partition that is present: its processed offset, or its count.
+fn shown(t: Tally, offsets: bool) -> Option<u32>
     requires { t.count < 4294967296 }
-    ensures { result ≡ shown offsets t }
+    ensures { result ≡ shown_if_present offsets t }
 {
-    if offsets {
-        return t.processed;
+    if !t.present {
+        return None;
     }
-    t.count as u32
+    Some(if offsets { t.processed } else { t.count as u32 })
 }
 
 // What `n` ranges from `first` on hold, by partitions.
@@ -149,38 +111,25 @@ pub(crate) fn by_partitions(
     first: usize,
     n: usize,
     offsets: bool,
-) -> ByPartitions
+) -> [Option<u32>; 8]
     requires { (first + n ≤ max_ranges) × ((par : ℕ) → (tally_of par (part first n ranges)).count < 4294967296) }
-    ensures { result ≡ shown_by offsets (part first n ranges) }
+    ensures { by_partitions_of (Ok result) ≡ shown_by offsets (part first n ranges) }
 {
-    let mut values = [0u32; 8];
-    let mut present = [false; 8];
-    let mut i = 0;
-    while i < 8 {
-        let t = tally(ranges, first, n, i);
-        values[i] = shown(t, offsets);
-        present[i] = t.present;
-        i += 1;
+    let mut all = [None; 8];
+    for par in 0..8 {
+        all[par] = shown(tally(ranges, first, n, par), offsets);
     }
-    ByPartitions {
-        number: 0,
-        values: values,
-        present: present,
-    }
+    all
 }
 
 // A range that is at its end is fully read; no mark is cleared.
 fn marked(range: ExternalsRangeReaderState) -> ExternalsRangeReaderState
     ensures { result ≡ marked range }
 {
-    let position = range.current_position;
-    let to = range.to;
-    if !ext_types::key_equal(position, to) {
-        return range;
+    ExternalsRangeReaderState {
+        fully_read: range.fully_read || range.current_position == range.to,
+        ..range
     }
-    let mut next = range;
-    next.fully_read = true;
-    next
 }
 
 pub(crate) fn marked_ranges(
@@ -191,11 +140,8 @@ pub(crate) fn marked_ranges(
     ensures { result ≡ map marked (take len ranges) ++ drop len ranges }
 {
     let mut table = ranges;
-    let mut i = 0;
-    while i < len {
-        let range = ranges[i];
-        table[i] = marked(range);
-        i += 1;
+    for range in table[..len].iter_mut() {
+        *range = marked(*range);
     }
     table
 }
@@ -210,19 +156,14 @@ pub(crate) fn raised_range(
     requires { len ≤ max_ranges }
     ensures { result ≡ raised_range partitions (take len ranges) last }
 {
-    let records = last.by_partitions;
-    let mut table = records;
-    let mut i = 0;
-    while i < 8 {
-        let p = partitions[i];
-        let x = records[i];
-        let t = tally(ranges, 0, len, i);
-        table[i] = partitions::raised(x, p, t.processed);
-        i += 1;
+    let raised = array::from_fn(|par| {
+        let greatest = tally(ranges, 0, len, par).processed;
+        partitions::raised(last.by_partitions[par], partitions[par], greatest)
+    });
+    ExternalsRangeReaderState {
+        by_partitions: raised,
+        ..last
     }
-    let mut next = last;
-    next.by_partitions = table;
-    next
 }
 
 // The place of the range with this seqno; `len` if there is none.
@@ -234,17 +175,10 @@ pub(crate) fn place_of(
     requires { len ≤ max_ranges }
     ensures { result ≡ place_of seqno (take len ranges) }
 {
-    let mut at = 0;
-    let mut left = len;
-    while 0 < left {
-        let range = ranges[at];
-        if range.seqno == seqno {
-            return at;
-        }
-        at += 1;
-        left -= 1;
-    }
-    at
+    ranges[..len]
+        .iter()
+        .position(|range| range.seqno == seqno)
+        .unwrap_or(len)
 }
 
 pub(crate) fn with_ranges(
@@ -254,12 +188,14 @@ pub(crate) fn with_ranges(
 ) -> ExternalsReader
     ensures { result ≡ with_ranges ranges len reader }
 {
-    let mut state = reader.reader_state;
-    state.ranges = ranges;
-    state.len = len;
-    let mut next = reader;
-    next.reader_state = state;
-    next
+    ExternalsReader {
+        reader_state: ExternalsReaderState {
+            ranges,
+            len,
+            ..reader.reader_state
+        },
+        ..reader
+    }
 }
 
 pub(crate) fn with_range(
@@ -270,10 +206,9 @@ pub(crate) fn with_range(
     requires { (at < reader.reader_state.len) × (reader.reader_state.len ≤ max_ranges) }
     ensures { result ≡ with_held (set (held_ranges reader.reader_state) at range) reader }
 {
-    let state = reader.reader_state;
-    let mut ranges = state.ranges;
+    let mut ranges = reader.reader_state.ranges;
     ranges[at] = range;
-    with_ranges(reader, ranges, state.len)
+    with_ranges(reader, ranges, reader.reader_state.len)
 }
 
 // A range's record of a partition replaced.
@@ -286,9 +221,6 @@ pub(crate) fn with_record_of(
     requires { (at < reader.reader_state.len) × (reader.reader_state.len ≤ max_ranges) }
     ensures { result ≡ with_held (on_place at (with_record par_id held) (held_ranges reader.reader_state)) reader }
 {
-    let state = reader.reader_state;
-    let ranges = state.ranges;
-    let range = ranges[at];
-    let next = partitions::with_record(range, par_id, held);
+    let next = partitions::with_record(reader.reader_state.ranges[at], par_id, held);
     with_range(reader, at, next)
 }

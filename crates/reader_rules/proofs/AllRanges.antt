@@ -1,4 +1,5 @@
 -- Document 01's "All ranges", where it is easily misread: each law is a sentence of the paper.
+use Rattle.std.specs.Prelude.{Option, None, Some}
 use Prim.Native.Nat.{ℕ, suc, ◌+◌, ◌-◌, ◌<◌}
 use mathlib.Core.Path.{◌≡◌, refl, sym, ap, ◌∙◌}
 use mathlib.Core.Bool.{Bool, true, false, not, ◌&&◌, ◌||◌}
@@ -18,16 +19,12 @@ use Rattle.messages_buffer.specs.declared.ExternalsPartitionRangeReaderState.{Ex
 use Rattle.messages_buffer.specs.Fullness.{no_limit}
 use Rattle.range_rules.specs.declared.ExternalsRangeReaderState.{ExternalsRangeReaderState}
 use Rattle.range_rules.specs.declared.ReadCounts.{ReadCounts}
-use Rattle.range_rules.specs.declared.LastChainTime.{LastChainTime}
-use Rattle.range_rules.specs.declared.LastChainTime.TheVariants.{Nothing, Time}
 use Rattle.range_rules.specs.declared.ReadNextExternalsMode.TheVariants.{ToTheEnd, ToPreviuosReadTo}
 use Rattle.range_rules.specs.Rules.{Outcome, silent, followed, no_key, time_value}
 use Rattle.reader_rules.specs.declared.ExternalsPartitionReaderState.{ExternalsPartitionReaderState}
 use Rattle.reader_rules.specs.declared.GetNextMessageGroupMode.TheVariants.{Continue, Refill}
-use Rattle.reader_rules.specs.declared.Imported.TheVariants.{End}
 use Rattle.reader_rules.specs.declared.Fixed.{Fixed}
-use Rattle.reader_rules.specs.declared.RangesRead.{RangesRead}
-use Rattle.reader_rules.specs.declared.SoFar.{SoFar}
+use Rattle.reader_rules.specs.Turns.{SoFar, RangesRead}
 use Rattle.reader_rules.specs.declared.ExternalsReaderState.{ExternalsReaderState}
 use Rattle.reader_rules.specs.State.{no_range, no_reader_partition, with_fully_read, with_to_and_position, open_ranges_limit_of}
 use Rattle.reader_rules.proofs.Each.{each_at, each_length}
@@ -197,14 +194,14 @@ module _ (x : Fixed) (range : ExternalsRangeReaderState) where
   no_range_is_moved_before_it_is_fully_read f = pick_no _ _ _ (ap (λ (b : Bool). b && is_own x range.seqno) f)
 
   -- the last imported entry's place, larger or not
-  pub the_block's_own_range_fully_read_stands_at_the_last_imported_entry : (key : ExternalKey) → range.fully_read ≡ true → is_own x range.seqno ≡ true → x.imported ≡ End key
+  pub the_block's_own_range_fully_read_stands_at_the_last_imported_entry : (key : ExternalKey) → range.fully_read ≡ true → is_own x range.seqno ≡ true → x.imported ≡ Some key
       → ((settled x range).current_position ≡ key) × ((settled x range).to ≡ key)
   unfolding settled
   the_block's_own_range_fully_read_stands_at_the_last_imported_entry key f o e =
-      let h : settled x range ≡ moved_to_end (End key) range = pick_yes _ _ _ (ap (λ (b : Bool). b && is_own x range.seqno) f ∙ o) ∙ ap (λ i. moved_to_end i range) e in
+      let h : settled x range ≡ moved_to_end (Some key) range = pick_yes _ _ _ (ap (λ (b : Bool). b && is_own x range.seqno) f ∙ o) ∙ ap (λ i. moved_to_end i range) e in
       (ap (λ (q : ExternalsRangeReaderState). q.current_position) h, ap (λ (q : ExternalsRangeReaderState). q.to) h)
 
-pub a_range_that_stands_at_the_last_imported_entry_stays_as_it_is : (key : ExternalKey) (r : ExternalsRangeReaderState) → r.current_position ≡ key → r.to ≡ key → moved_to_end (End key) r ≡ r
+pub a_range_that_stands_at_the_last_imported_entry_stays_as_it_is : (key : ExternalKey) (r : ExternalsRangeReaderState) → r.current_position ≡ key → r.to ≡ key → moved_to_end (Some key) r ≡ r
 a_range_that_stands_at_the_last_imported_entry_stays_as_it_is key r p t = ap (λ (k : ExternalKey). with_to_and_position r key k) (sym p) ∙ ap (λ (k : ExternalKey). with_to_and_position r k r.current_position) (sym t)
 
 -- ---- what a turn comes to
@@ -319,13 +316,13 @@ module _ (a b : ReadCounts) (p : ℕ) (few : p < 8) where
   )
 
 -- ---- the saved last chain time
-pub the_saved_last_chain_time_changes_only_if_one_was_seen : (saved : LastChainTime) → time_saved Nothing saved ≡ saved
+pub the_saved_last_chain_time_changes_only_if_one_was_seen : (saved : Option ChainTime) → time_saved None saved ≡ saved
 the_saved_last_chain_time_changes_only_if_one_was_seen saved = refl
 
-pub a_seen_chain_time_is_saved : (time : ChainTime) (saved : LastChainTime) → time_saved (Time time) saved ≡ Time time
+pub a_seen_chain_time_is_saved : (time : ChainTime) (saved : Option ChainTime) → time_saved (Some time) saved ≡ Some time
 a_seen_chain_time_is_saved time saved = refl
 
 -- in the paper's values: the time that was seen, else the one saved before
-pub the_saved_time_is_the_one_seen_else_the_one_before : (seen saved : LastChainTime) → time_value (time_saved seen saved) ≡ or_else (time_value seen) (time_value saved)
-the_saved_time_is_the_one_seen_else_the_one_before Nothing saved = refl
-the_saved_time_is_the_one_seen_else_the_one_before (Time time) saved = refl
+pub the_saved_time_is_the_one_seen_else_the_one_before : (seen saved : Option ChainTime) → time_value (time_saved seen saved) ≡ or_else (time_value seen) (time_value saved)
+the_saved_time_is_the_one_seen_else_the_one_before None saved = refl
+the_saved_time_is_the_one_seen_else_the_one_before (Some time) saved = refl

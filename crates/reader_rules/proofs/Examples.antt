@@ -1,4 +1,5 @@
 -- Questions 4 and 5 of the reader in document 01's numbers, and "Offsets" on ranges small enough to be seen.
+use Rattle.std.specs.Prelude.{Option}
 use Prim.Native.Nat.{ℕ, zero, suc, ◌+◌, ◌≤◌, ◌<◌}
 use mathlib.Core.Path.{◌≡◌, refl}
 use mathlib.Core.Bool.{Bool, true, false}
@@ -8,11 +9,11 @@ use borrow.Author.Tests.{le-leb, lt-leb}
 use Rattle.shard_ident.specs.Shard.{shard_number}
 use Rattle.router.specs.Router.{routes_number}
 use Rattle.cache_rules.specs.Rules.{area_bytes}
+use Rattle.ext_types.specs.declared.ChainTime.{ChainTime}
 use Rattle.ext_types.specs.declared.Seconds.{Seconds}
 use Rattle.messages_buffer.specs.declared.ExternalsPartitionRangeReaderState.{ExternalsPartitionRangeReaderState}
 use Rattle.messages_buffer.specs.Fullness.{every, limits_number, partitions_number, first_no}
 use Rattle.range_rules.specs.declared.ExternalsRangeReaderState.{ExternalsRangeReaderState}
-use Rattle.range_rules.specs.declared.LastChainTime.{LastChainTime}
 use Rattle.range_rules.specs.Rules.{no_key}
 use Rattle.reader_rules.specs.declared.ExternalsPartitionReaderState.{ExternalsPartitionReaderState}
 use Rattle.reader_rules.specs.declared.ExternalsReader.{ExternalsReader}
@@ -102,7 +103,7 @@ module _ (a b c : ExternalsRangeReaderState) (f : ExternalsRangeReaderState → 
   pub only_the_named_range_is_changed : on_place 1 f (a ∷ b ∷ c ∷ []) ≡ a ∷ f b ∷ c ∷ []
   only_the_named_range_is_changed = refl
 
-  pub the_ranges_held_are_the_first : (ps : List ExternalsPartitionReaderState) (t : LastChainTime)
+  pub the_ranges_held_are_the_first : (ps : List ExternalsPartitionReaderState) (t : Option ChainTime)
       → held_ranges (record { ranges = a ∷ b ∷ c ∷ []; len = 2; by_partitions = ps; last_read_to_anchor_chain_time = t }) ≡ a ∷ b ∷ []
   the_ranges_held_are_the_first ps t = refl
 

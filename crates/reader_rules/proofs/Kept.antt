@@ -1,4 +1,5 @@
 -- Question 5 of the reader is kept: by every change of its ranges, by the next range and by a read of all.
+use Rattle.std.specs.Prelude.{Option, None, Some}
 use Prim.Native.Nat.{ℕ, zero, suc, ◌+◌, ◌-◌, ◌≤◌, ◌<◌}
 use mathlib.Core.Path.{◌≡◌, refl, sym, ap, subst, ◌∙◌}
 use mathlib.Core.Bool.{Bool, true, false, not, ◌&&◌, ◌||◌}
@@ -20,9 +21,7 @@ use Rattle.reader_rules.specs.declared.ExternalsPartitionReaderState.{ExternalsP
 use Rattle.reader_rules.specs.declared.ExternalsReaderState.{ExternalsReaderState}
 use Rattle.reader_rules.specs.declared.ExternalsReader.{ExternalsReader}
 use Rattle.reader_rules.specs.declared.Fixed.{Fixed}
-use Rattle.reader_rules.specs.declared.Imported.{Imported}
-use Rattle.reader_rules.specs.declared.Imported.TheVariants as imported
-use Rattle.reader_rules.specs.declared.RangesRead.{RangesRead}
+use Rattle.reader_rules.specs.Turns.{RangesRead}
 use Rattle.reader_rules.specs.Each.{each}
 use Rattle.reader_rules.specs.State.{held_ranges, max_ranges, open_ranges_limit_of, range_sound, sound_ranges_from, with_to_and_position}
 use Rattle.reader_rules.specs.Rules.{range_entered, state_entered, last_or, next_partition, next_range, continues, wants_next, is_own, moved_to_end, settled, Told, numbered, added, read_of, after_turn, OneRange, with_next_range, ranges_read}
@@ -257,9 +256,9 @@ pub settled_either : (P : ExternalsRangeReaderState → Type 0) (x : Fixed) (r :
 unfolding settled
 settled_either P x r same moved = pick_both P (r.fully_read && is_own x r.seqno) _ _ (go x.imported) same
   where
-    go : (i : Imported) → P (moved_to_end i r)
-    go imported.Nothing = same
-    go (imported.End key) = moved key
+    go : (i : Option ExternalKey) → P (moved_to_end i r)
+    go None = same
+    go (Some key) = moved key
 
 -- the range that a read left, moved to the last imported entry or not
 pub record LeftOf (range after : ExternalsRangeReaderState) : Type 0 where

@@ -16,7 +16,7 @@ use Rattle.range_rules.specs.declared.ExternalsRangeReaderState.{ExternalsRangeR
 use Rattle.range_rules.specs.Rules.{Outcome, silent, followed}
 use Rattle.reader_rules.specs.declared.ExternalsReaderState.{ExternalsReaderState}
 use Rattle.reader_rules.specs.declared.Fixed.{Fixed}
-use Rattle.reader_rules.specs.declared.RangesRead.{RangesRead}
+use Rattle.reader_rules.specs.Turns.{RangesRead}
 use Rattle.reader_rules.specs.State.{no_range, open_ranges_limit_of}
 use Rattle.reader_rules.specs.Offsets.{all_fully_read}
 use Rattle.reader_rules.specs.Rules.{OneRange, Told, is_skipped, mode_for, settled, numbered, not_all_read, added, read_of, after_turn, next_range, wants_next, turn, turns, with_next_range, ranges_read, at_entry}

@@ -1,5 +1,6 @@
 -- Document 02, ticket 7, of the read of all: the free places told are "the free places that the last range read
 -- reported", as that range stands at the end; where no range was read none are told.
+use Rattle.std.specs.Prelude.{Option}
 use Prim.Native.Nat.{ℕ, zero, suc, ◌+◌, ◌-◌, ◌<◌, ◌≤◌}
 use mathlib.Core.Path.{◌≡◌, refl, sym, ap, subst, ◌∙◌}
 use mathlib.Core.Bool.{Bool, true, false}
@@ -21,25 +22,24 @@ use Rattle.range_rules.specs.declared.ReadNextExternalsMode.{ReadNextExternalsMo
 use Rattle.range_rules.specs.Rules.{Outcome, silent, followed}
 use Rattle.reader_rules.specs.declared.ExternalsReaderState.{ExternalsReaderState}
 use Rattle.reader_rules.specs.declared.Fixed.{Fixed}
-use Rattle.reader_rules.specs.declared.LastFree.{LastFree}
-use Rattle.reader_rules.specs.declared.RangesRead.{RangesRead}
+use Rattle.reader_rules.specs.Turns.{RangesRead}
 use Rattle.reader_rules.specs.State.{no_range, open_ranges_limit_of}
 use Rattle.reader_rules.proofs.Kept.{settled_either, wanted}
 use Rattle.reader_rules.specs.Rules.{OneRange, Told, free_value, is_skipped, mode_for, settled, numbered, added, read_of, after_turn, wants_next, turn, is_over, turns, with_next_range, ranges_read, next_range, at_entry}
 
 -- no range is read: the `len` ranges handed in are left as they were
-pub record NoneRead (before : List ExternalsRangeReaderState) (len : ℕ) (free : LastFree) (after : List ExternalsRangeReaderState) : Type 0 where
+pub record NoneRead (before : List ExternalsRangeReaderState) (len : ℕ) (free : Option ℕ) (after : List ExternalsRangeReaderState) : Type 0 where
   pub told : free_value free ≡ none
   pub same : (j : ℕ) → j < len → get_or after j no_range ≡ get_or before j no_range
 
 -- range i is the last read: it has as many free places as are told, and those behind it are as they were
-pub record LastRead (limits : List ℕ) (before : List ExternalsRangeReaderState) (len most : ℕ) (free : LastFree) (after : List ExternalsRangeReaderState) : Type 0 where
+pub record LastRead (limits : List ℕ) (before : List ExternalsRangeReaderState) (len most : ℕ) (free : Option ℕ) (after : List ExternalsRangeReaderState) : Type 0 where
   pub i : ℕ
   pub held : i < most
   pub told : free_value free ≡ some (range_free limits (get_or after i no_range).by_partitions)
   pub same : (j : ℕ) → i < j → j < len → get_or after j no_range ≡ get_or before j no_range
 
-abbrev pub Reported : List ℕ → List ExternalsRangeReaderState → ℕ → ℕ → LastFree → List ExternalsRangeReaderState → Type 0
+abbrev pub Reported : List ℕ → List ExternalsRangeReaderState → ℕ → ℕ → Option ℕ → List ExternalsRangeReaderState → Type 0
 Reported limits before len most free after = NoneRead before len free after ⊎ LastRead limits before len most free after
 
 -- a range's read that is not refused reports the free places of the range that it leaves
@@ -59,17 +59,17 @@ module _ (x : Fixed) (before : List ExternalsRangeReaderState) (slots len : ℕ)
     ranges : r.len ≡ n
     reported : Reported x.limits before len i r.so_far.free r.ranges
 
-  later : (i k : ℕ) (free : LastFree) (after : List ExternalsRangeReaderState) → i ≤ k → Reported x.limits before len i free after → Reported x.limits before len k free after
+  later : (i k : ℕ) (free : Option ℕ) (after : List ExternalsRangeReaderState) → i ≤ k → Reported x.limits before len i free after → Reported x.limits before len k free after
   later i k free after h (inl n) = inl n
   later i k free after h (inr l) = inr (record { i = l.i; held = omega (arith, l.held); told = l.told; same = l.same })
 
   -- a range that has not had its turn is as it was handed in
-  behind : (i : ℕ) (free : LastFree) (after : List ExternalsRangeReaderState) → Reported x.limits before len i free after → (j : ℕ) → i ≤ j → j < len → get_or after j no_range ≡ get_or before j no_range
+  behind : (i : ℕ) (free : Option ℕ) (after : List ExternalsRangeReaderState) → Reported x.limits before len i free after → (j : ℕ) → i ≤ j → j < len → get_or after j no_range ≡ get_or before j no_range
   behind i free after (inl n) j h g = n.same j g
   behind i free after (inr l) j h g = l.same j (omega (arith, l.held)) g
 
   -- a store behind the ranges handed in changes none of them
-  appended : (k : ℕ) (v : ExternalsRangeReaderState) (free : LastFree) (after : List ExternalsRangeReaderState) → len ≤ k → Reported x.limits before len k free after → Reported x.limits before len k free (set after k v)
+  appended : (k : ℕ) (v : ExternalsRangeReaderState) (free : Option ℕ) (after : List ExternalsRangeReaderState) → len ≤ k → Reported x.limits before len k free after → Reported x.limits before len k free (set after k v)
   appended k v free after e (inl n) = inl (record { told = n.told; same = λ j h. read_below ExternalsRangeReaderState after k j v no_range (get_or before j no_range) (omega arith) (n.same j h) })
   appended k v free after e (inr l) =
       inr

@@ -13,7 +13,7 @@ use Rattle.range_rules.specs.declared.ReadCounts.{ReadCounts}
 use Rattle.range_rules.specs.declared.ReadNextExternalsMode.{ReadNextExternalsMode}
 use Rattle.range_rules.specs.Bounds.{AtMost}
 use Rattle.reader_rules.specs.declared.Fixed.{Fixed}
-use Rattle.reader_rules.specs.declared.RangesRead.{RangesRead}
+use Rattle.reader_rules.specs.Turns.{RangesRead}
 use Rattle.reader_rules.specs.Each.{each}
 use Rattle.reader_rules.specs.State.{max_ranges, open_ranges_limit_of}
 use Rattle.reader_rules.specs.Rules.{sums, counts_added, Told, after_turn, OneRange, wants_next, with_next_range, ranges_read}

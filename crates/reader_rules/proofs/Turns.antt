@@ -14,7 +14,7 @@ use Rattle.range_rules.specs.declared.ReadNextExternalsMode.{ReadNextExternalsMo
 use Rattle.range_rules.specs.Rules.{Outcome, silent, followed}
 use Rattle.rows.proofs.Laws.{pick_both}
 use Rattle.reader_rules.specs.declared.Fixed.{Fixed}
-use Rattle.reader_rules.specs.declared.RangesRead.{RangesRead}
+use Rattle.reader_rules.specs.Turns.{RangesRead}
 use Rattle.reader_rules.specs.State.{no_range}
 use Rattle.reader_rules.specs.Rules.{OneRange, Told, is_skipped, mode_for, not_all_read, read_of, settled, after_turn, next_range, wants_next, turn, is_over, turns, with_next_range, next_turn, ranges_read}
 

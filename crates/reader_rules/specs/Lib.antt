@@ -1,4 +1,5 @@
 pub mod Each
 pub mod State
+pub mod Turns
 pub mod Rules
 pub mod Offsets

@@ -10,7 +10,6 @@ use Rattle.reader_rules.specs.declared.ExternalsPartitionReaderState.{ExternalsP
 use Rattle.reader_rules.specs.declared.ExternalsReader.{ExternalsReader}
 use Rattle.reader_rules.specs.Each.{each}
 use Rattle.reader_rules.specs.State.{no_range, no_reader_partition, with_fully_read, with_state}
-use Rattle.reader_rules.specs.declared.ByPartitions.{ByPartitions}
 use Rattle.reader_rules.specs.declared.PartitionTest.{PartitionTest}
 use Rattle.reader_rules.specs.declared.PartitionTest.TheVariants.{InRange, InReader, Unprocessed, Empty, Reached, Collected}
 use Rattle.reader_rules.specs.declared.Tally.{Tally}
@@ -98,6 +97,12 @@ tally_of i l = tally_from i no_tally l
 
 abbrev pub shown : Bool → Tally → ℕ
 shown offsets t = pick offsets t.processed t.count
+
+-- a number for each partition that is present, and 0 for the others
+pub record ByPartitions : Type 0 where
+  pub number : ℕ
+  pub values : List ℕ
+  pub present : List Bool
 
 -- the processed offsets, or the counts, by partitions
 abbrev pub shown_by : Bool → List ExternalsRangeReaderState → ByPartitions

@@ -1,7 +1,7 @@
 -- Document 01, "All ranges": which ranges are read and how, what becomes of the others, and the next range. How one
 -- range is read is handed in: on the window, or on the book's cache.
-use Rattle.std.specs.Prelude.{ℕ, zero, suc, ◌+◌, ◌-◌, Bool, true, false, not, ◌&&◌, ◌||◌, List, [], ◌∷◌, map, ltb, leb, eqb, get_or, set, take}
-use Rattle.std.proofs.Math.Option.{Option, none, some}
+use Rattle.std.specs.Prelude.{ℕ, zero, suc, ◌+◌, ◌-◌, Bool, true, false, not, ◌&&◌, ◌||◌, List, [], ◌∷◌, map, ltb, leb, eqb, get_or, set, take, Option, None, Some}
+use Rattle.std.proofs.Math.Option.{Option as Maybe, none, some}
 use Rattle.std.proofs.lemmas.List.Edits.{sets}
 use Rattle.rows.specs.Rows.{pick}
 use Rattle.ext_types.specs.declared.ChainTime.{ChainTime}
@@ -11,23 +11,14 @@ use Rattle.messages_buffer.specs.declared.ExternalsPartitionRangeReaderState.{Ex
 use Rattle.messages_buffer.specs.Fullness.{no_limit}
 use Rattle.range_rules.specs.declared.ExternalsRangeReaderState.{ExternalsRangeReaderState}
 use Rattle.range_rules.specs.declared.ReadCounts.{ReadCounts}
-use Rattle.range_rules.specs.declared.LastChainTime.{LastChainTime}
-use Rattle.range_rules.specs.declared.LastChainTime.TheVariants.{Nothing, Time}
 use Rattle.range_rules.specs.declared.ReadNextExternalsMode.{ReadNextExternalsMode}
 use Rattle.range_rules.specs.declared.ReadNextExternalsMode.TheVariants.{ToTheEnd, ToPreviuosReadTo}
 use Rattle.range_rules.specs.Rules.{Outcome, silent, followed, no_key, no_counts}
 use Rattle.reader_rules.specs.declared.ExternalsPartitionReaderState.{ExternalsPartitionReaderState}
 use Rattle.reader_rules.specs.declared.GetNextMessageGroupMode.{GetNextMessageGroupMode}
 use Rattle.reader_rules.specs.declared.GetNextMessageGroupMode.TheVariants.{Continue, Refill}
-use Rattle.reader_rules.specs.declared.Imported.{Imported}
-use Rattle.reader_rules.specs.declared.Imported.TheVariants.{End}
-use Rattle.reader_rules.specs.declared.Imported.TheVariants as imported
-use Rattle.reader_rules.specs.declared.LastFree.{LastFree}
-use Rattle.reader_rules.specs.declared.LastFree.TheVariants.{Places}
-use Rattle.reader_rules.specs.declared.LastFree.TheVariants as lastFree
 use Rattle.reader_rules.specs.declared.Fixed.{Fixed}
-use Rattle.reader_rules.specs.declared.RangesRead.{RangesRead}
-use Rattle.reader_rules.specs.declared.SoFar.{SoFar}
+use Rattle.reader_rules.specs.Turns.{SoFar, RangesRead}
 use Rattle.reader_rules.specs.State.{no_range, no_reader_partition, open_ranges_limit_of, with_fully_read, with_to_and_position}
 use Rattle.reader_rules.specs.Each.{each}
 use Rattle.range_rules.specs.declared.ProcessedTo.{ProcessedTo}
@@ -127,14 +118,14 @@ is_skipped x range = waits x.mode (is_own x range.seqno) || before_skip_offsets 
 unfoldable pub mode_for : Fixed → ℕ → ReadNextExternalsMode
 mode_for x seqno = pick (is_own x seqno) ToTheEnd ToPreviuosReadTo
 
-abbrev pub moved_to_end : Imported → ExternalsRangeReaderState → ExternalsRangeReaderState
-moved_to_end imported.Nothing r = r
-moved_to_end (End key) r = with_to_and_position r key key
+abbrev pub moved_to_end : Option ExternalKey → ExternalsRangeReaderState → ExternalsRangeReaderState
+moved_to_end None r = r
+moved_to_end (Some key) r = with_to_and_position r key key
 
 -- the key that a range's position and "to" become, or none
-abbrev pub imported_value : Imported → Option ExternalKey
-imported_value imported.Nothing = none
-imported_value (End key) = some key
+abbrev pub imported_value : Option ExternalKey → Maybe ExternalKey
+imported_value None = none
+imported_value (Some key) = some key
 
 -- "When a read in this call leaves the block's own range fully read and history is nonempty, position and "to" become
 -- the last imported entry's id and message count."
@@ -149,14 +140,14 @@ abbrev pub counts_added : ReadCounts → ReadCounts → ReadCounts
 counts_added a b = record { read = sums a.read b.read; expired = sums a.expired b.expired; buffered = sums a.buffered b.buffered }
 
 -- "The saved last chain time changes only if the last range read saw one."
-abbrev pub time_saved : LastChainTime → LastChainTime → LastChainTime
-time_saved Nothing saved = saved
-time_saved (Time time) saved = Time time
+abbrev pub time_saved : Option ChainTime → Option ChainTime → Option ChainTime
+time_saved None saved = saved
+time_saved (Some time) saved = Some time
 
 -- the free places that the last range read reported, or none
-abbrev pub free_value : LastFree → Option ℕ
-free_value lastFree.Nothing = none
-free_value (Places n) = some n
+abbrev pub free_value : Option ℕ → Maybe ℕ
+free_value None = none
+free_value (Some n) = some n
 
 -- what one range's read answers, but for the transaction
 pub record Told : Type 0 where
@@ -164,7 +155,7 @@ pub record Told : Type 0 where
   pub free : ℕ
   pub pops : ℕ
   pub used : ℕ
-  pub last : LastChainTime
+  pub last : Option ChainTime
   pub counts : ReadCounts
   pub range : ExternalsRangeReaderState
 
@@ -184,7 +175,7 @@ added s a =
       used = s.used + a.used;
       all_read = s.all_read && a.range.fully_read;
       stopped = eqb a.free 0 && not a.range.fully_read;
-      free = Places a.free;
+      free = Some a.free;
       last = a.last;
       counts = counts_added s.counts a.counts;
     }
@@ -239,7 +230,7 @@ ranges_read one x r = next_turn one x (turns one x r.len 0 (silent r))
 abbrev pub processed_of : ExternalsPartitionReaderState → ProcessedTo
 processed_of p = record { key = p.processed_to; present = p.present }
 
-abbrev pub fixed_of : ExternalsReader → GetNextMessageGroupMode → Imported → ℕ → Fixed
+abbrev pub fixed_of : ExternalsReader → GetNextMessageGroupMode → Option ExternalKey → ℕ → Fixed
 fixed_of r mode end room =
     record {
       shard = r.for_shard_id;
@@ -255,7 +246,7 @@ fixed_of r mode end room =
     }
 
 abbrev pub nothing_read : SoFar
-nothing_read = record { number = 0; pops = 0; used = 0; all_read = true; stopped = false; free = lastFree.Nothing; last = Nothing; counts = no_counts }
+nothing_read = record { number = 0; pops = 0; used = 0; all_read = true; stopped = false; free = None; last = None; counts = no_counts }
 
 abbrev pub at_entry : ExternalsReaderState → RangesRead
 at_entry s = read_of nothing_read s.ranges s.len

@@ -1,5 +1,6 @@
 -- Questions 4 and 5 of the reader, its limit of open ranges, and a range or the reader changed in one place.
-use Rattle.std.specs.Prelude.{ℕ, suc, Bool, true, false, ◌&&◌, List, [], ◌∷◌, leb, ltb, eqb, take}
+use Rattle.std.specs.Prelude.{ℕ, suc, Bool, true, false, ◌&&◌, List, [], ◌∷◌, leb, ltb, eqb, take, Option}
+use Rattle.ext_types.specs.declared.ChainTime.{ChainTime}
 use Rattle.rows.specs.Rows.{pick}
 use Rattle.ext_types.specs.declared.ExternalKey.{ExternalKey}
 use Rattle.messages_buffer.specs.Fullness.{first_no, limits_number, partitions_number}
@@ -8,7 +9,6 @@ use Rattle.range_rules.specs.Rules.{no_key}
 use Rattle.reader_rules.specs.declared.ExternalsPartitionReaderState.{ExternalsPartitionReaderState}
 use Rattle.reader_rules.specs.declared.ExternalsReaderState.{ExternalsReaderState}
 use Rattle.reader_rules.specs.declared.MsgsExecutionParams.{MsgsExecutionParams}
-use Rattle.range_rules.specs.declared.LastChainTime.{LastChainTime}
 use Rattle.reader_rules.specs.declared.ExternalsReader.{ExternalsReader}
 use Rattle.shard_ident.specs.Shard.{shard_number}
 use Rattle.router.specs.Router.{routes_number}
@@ -131,7 +131,7 @@ with_limits r limits =
       all_ranges_fully_read = r.all_ranges_fully_read;
     }
 
-abbrev pub with_last : ExternalsReaderState → LastChainTime → ExternalsReaderState
+abbrev pub with_last : ExternalsReaderState → Option ChainTime → ExternalsReaderState
 with_last s last = record { ranges = s.ranges; len = s.len; by_partitions = s.by_partitions; last_read_to_anchor_chain_time = last }
 
 -- ---- questions

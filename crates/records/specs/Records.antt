@@ -1,17 +1,33 @@
 -- Records of a session (document 01, "Session program"): question 17, and the fields of a payload, little-endian.
 -- Fields past its end are 0.
-use Rattle.std.specs.Prelude.{ℕ, ◌+◌, ◌-◌, ◌*◌, Bool, false, not, ◌&&◌, List, [], ◌∷◌, map, ltb, leb, eqb, ℤ, pos, negsuc, length, drop, get_or, replicate}
+use Rattle.std.specs.Prelude.{ℕ, ◌+◌, ◌-◌, ◌*◌, Bool, false, not, ◌&&◌, List, [], ◌∷◌, map, ltb, leb, eqb, ℤ, pos, negsuc, length, drop, get_or, replicate, ◌≡◌, ◌≢◌, Result, MatchResult}
 use Rattle.rows.specs.Rows.{pick, part, num_at}
 use Rattle.shard_ident.specs.declared.ShardIdent.{ShardIdent}
 use Rattle.anchors_cache.specs.declared.MempoolAnchor.{MempoolAnchor}
 use Rattle.cache_rules.specs.Rules.{ask, max_anchor_messages, author_bytes}
 use Rattle.reader_rules.specs.declared.MsgsExecutionParams.{MsgsExecutionParams}
+use Rattle.refusals.specs.declared.Refusal.{Refusal}
+use Rattle.refusals.specs.declared.Refusal.TheVariants.{Malformed}
+use Rattle.records.specs.declared.Kind.{Kind}
+use Rattle.records.specs.declared.Kind.TheVariants.{Shard, Route, Settings, Anchor, Do}
 use Rattle.records.specs.declared.Next.{Next}
 use Rattle.records.specs.declared.Next.TheVariants.{Whole, Long, Part}
 
 -- the longest record that can be taken: kind 2, an anchor's 50 bytes, then its messages
 abbrev pub longest_record : ℕ
 longest_record = 52 + 33 * max_anchor_messages
+
+-- ---- kinds
+abbrev pub kind_number : Kind → ℕ
+kind_number Shard = 1
+kind_number Route = 2
+kind_number Settings = 3
+kind_number Anchor = 4
+kind_number Do = 5
+
+-- the kind with this number, or question 17 of a number that no kind has
+abbrev pub Decodes : ℕ → Result Kind Refusal → Type 0
+Decodes n r = MatchResult r (λ kind. kind_number kind ≡ n) (λ e. (e ≡ Malformed) × ((kind : Kind) → kind_number kind ≢ n))
 
 -- ---- framing: length 4, counting kind and payload
 -- a record longer than 16,948 bytes, an anchor's with 512 messages, is judged by its first 52; input that ends before a

@@ -1,5 +1,5 @@
 -- Laws of the router.
-use Prim.Native.Nat.{ℕ, zero, suc, ◌+◌, ◌-◌, ◌*◌, ◌/◌, ◌%◌, ◌≤◌, ◌<◌}
+use Prim.Native.Nat.{ℕ, suc, ◌+◌, ◌-◌, ◌*◌, ◌/◌, ◌%◌, ◌≤◌, ◌<◌}
 use mathlib.Core.Path.{◌≡◌, refl, sym, ap, ◌∙◌}
 use mathlib.Core.List.Memᴰ
 use mathlib.Core.List.{List, [], ◌∷◌, ◌++◌, Memᴰ}
@@ -9,30 +9,35 @@ use native.Mathlib.Omega.{arith}
 use native.Mathlib.Nat.{mul-div-le}
 use lib.Dec.{leb, ltb, eqb}
 use lib.ListN.{length, take, drop, get_or, length-drop, length-take, length-append}
-use lib.Seq.{take_all, get_or-drop, get_or-take, take-take}
+use lib.Seq.{get_or-drop, get_or-take}
 use borrow.Author.Tests.{leb-true, leb-false, le-leb, lt-leb, lt-ltb, le-ltb}
-use Rattle.rows.specs.Rows.{pick, part, rows, same_bytes, whole_rows, later, find_row}
-use Rattle.rows.specs.declared.Found.{Found}
-use Rattle.rows.specs.declared.Found.TheVariants.{At, Nothing}
+use Rattle.rows.specs.Rows.{pick, part, rows, same_bytes, later, find_row}
+use Rattle.std.specs.Prelude.{Option, Some, None}
 use Rattle.rows.proofs.Laws.{and_true, same_refl, same_true, same_length, rows_cons, rows_at, rows_wide, rows_length, found_at}
-use Rattle.router.specs.Router.{route_rows, address_of, route_partition_of, listed, none_twice, partitions_exist, sound_routes, routes_number, first_partition, partition_of, partition_at, answer_of, unless_refused, get_partition, max_routes}
-use Rattle.router.specs.declared.Routed.TheVariants.{Refused, Partition}
+use Rattle.router.specs.Router.{route_rows, address_of, route_partition_of, listed, none_twice, partitions_exist, sound_routes, routes_number, first_partition, partition_of, partition_at, answer_of, unless_refused, get_partition, max_routes, Answer}
+use Rattle.std.specs.Prelude.{Result, Ok, Err}
+use Rattle.std.specs.List.{list_all}
+use Rattle.std.specs.Result.{IsErr, IsErrAnd}
+use Rattle.refusals.specs.declared.Refusal.{Refusal}
+use Rattle.refusals.specs.declared.Refusal.TheVariants.{RoutesUnsound}
+use Rattle.refusals.specs.Refusals.{number_of}
+use Rattle.refusals.proofs.Laws.{refused_is_not_done, handed_on}
 
 -- ---- a message's row
 -- the partition that stands in the i-th row
-row_partition : List (List ℕ) → Found → ℕ
-row_partition l (At i) = route_partition_of (get_or l i [])
-row_partition l Nothing = 0
+row_partition : List (List ℕ) → Option ℕ → ℕ
+row_partition l (Some i) = route_partition_of (get_or l i [])
+row_partition l None = 0
 
 first_found : (m : List ℕ) (l : List (List ℕ)) → length m ≡ 33 → first_partition m l ≡ row_partition l (find_row m l)
 unfolding first_partition find_row row_partition
 first_found m [] e = refl
 first_found m (r ∷ l) e = rw e (go (same_bytes (take 33 r) m) (find_row m l) (first_found m l e))
   where
-    go : (b : Bool) (f : Found) → first_partition m l ≡ row_partition l f → pick b (route_partition_of r) (first_partition m l) ≡ row_partition (r ∷ l) (pick b (At 0) (later 1 f))
+    go : (b : Bool) (f : Option ℕ) → first_partition m l ≡ row_partition l f → pick b (route_partition_of r) (first_partition m l) ≡ row_partition (r ∷ l) (pick b (Some 0) (later 1 f))
     go true f h = refl
-    go false (At i) h = let e : 1 + i ≡ suc i = omega arith in rw e h
-    go false Nothing h = h
+    go false (Some i) h = let e : 1 + i ≡ suc i = omega arith in rw e h
+    go false None h = h
 
 part_partition : (at : ℕ) (routes : List ℕ) → route_partition_of (part at 34 routes) ≡ get_or routes (at + 33) 0
 part_partition at routes = rw (get_or-take 34 (drop at routes) 33 0 (omega arith), get_or-drop at routes 33 0)
@@ -42,12 +47,12 @@ pub partition_is_that_of_the_row_found : (routes m : List ℕ) → length m ≡ 
 unfolding partition_of row_partition
 partition_is_that_of_the_row_found routes m e = first_found m (route_rows routes) e ∙ go (find_row m (route_rows routes)) refl
   where
-    go : (f : Found) → find_row m (route_rows routes) ≡ f → row_partition (route_rows routes) f ≡ partition_at routes f
-    go (At i) h =
+    go : (f : Option ℕ) → find_row m (route_rows routes) ≡ f → row_partition (route_rows routes) f ≡ partition_at routes f
+    go (Some i) h =
         let k = rows_length 34 (length routes / 34) routes in
         let p = (found_at m (route_rows routes) i h).0 in
         ap route_partition_of (rows_at 34 (length routes / 34) i routes (omega arith)) ∙ part_partition (34 * i) routes
-    go Nothing h = refl
+    go None h = refl
 
 -- A message that is not 33 bytes long is unlisted.
 first_short : (m : List ℕ) (l : List (List ℕ)) → (length m ≡ 33 → ⊥) → ((r : List ℕ) → Memᴰ r l → length r ≡ 34) → first_partition m l ≡ 0
@@ -63,21 +68,21 @@ unfolding partition_of
 unlisted_where_not_33_bytes routes m p = first_short m (route_rows routes) p (λ r h. rows_wide 34 (length routes / 34) routes r (mul-div-le (length routes) 34) h)
 
 -- ---- question 3, row by row
-is_at : Found → Bool
-is_at (At i) = true
-is_at Nothing = false
+is_at : Option ℕ → Bool
+is_at (Some i) = true
+is_at None = false
 
 listed_found : (a : List ℕ) (l : List (List ℕ)) → length a ≡ 33 → listed a l ≡ is_at (find_row a l)
 unfolding listed find_row is_at
 listed_found a [] e = refl
 listed_found a (r ∷ l) e = rw e (go (same_bytes (take 33 r) a) (find_row a l) (listed_found a l e))
   where
-    go : (b : Bool) (f : Found) → listed a l ≡ is_at f → (b || listed a l) ≡ is_at (pick b (At 0) (later 1 f))
+    go : (b : Bool) (f : Option ℕ) → listed a l ≡ is_at f → (b || listed a l) ≡ is_at (pick b (Some 0) (later 1 f))
     go true f h = refl
-    go false (At i) h = h
-    go false Nothing h = h
+    go false (Some i) h = h
+    go false None h = h
 
--- the loops over the routes: `at` is the place of the first of the `left` routes that are left
+-- the rows from one route on
 module _ (routes : List ℕ) (at left : ℕ) (some : 0 < left) where
   exist_step : partitions_exist (rows 34 left (drop at routes)) ≡ (leb (get_or routes (at + 33) 0) 7 && partitions_exist (rows 34 (left - 1) (drop (at + 34) routes)))
   unfolding partitions_exist
@@ -89,43 +94,39 @@ module _ (routes : List ℕ) (at left : ℕ) (some : 0 < left) where
   pub exist_stop : 7 < get_or routes (at + 33) 0 → partitions_exist (rows 34 left (drop at routes)) ≡ false
   exist_stop p = exist_step ∙ rw (lt-leb _ _ p)
 
-  twice_step : none_twice (rows 34 left (drop at routes)) ≡ (not (listed (part at 33 routes) (rows 34 (left - 1) (drop (at + 34) routes))) && none_twice (rows 34 (left - 1) (drop (at + 34) routes)))
-  unfolding none_twice
-  twice_step = rw (rows_cons 34 left at routes some, take-take 33 34 (drop at routes) (omega arith))
+-- the loop over the routes: l are the bytes that are left, one route and those behind it
+module _ (l route behind : List ℕ) (some : 34 ≤ length l) (cut : (route ≡ take 34 l) × (behind ≡ drop 34 l)) where
+  one_route : route_rows l ≡ route ∷ route_rows behind
+  one_route =
+      let n : (length l - 34) / 34 ≡ length l / 34 - 1 = omega arith in
+      let p : 0 < length l / 34 = omega arith in
+      rw (cut.0, cut.1, length-drop 34 l, n) (rows_cons 34 (length l / 34) 0 l p)
 
-  module _ (inside : at + 34 * left ≤ length routes) (last : length routes < at + 34 * left + 34) where
-    behind : whole_rows 34 (take (length routes - (at + 34)) (drop (at + 34) routes)) ≡ rows 34 (left - 1) (drop (at + 34) routes)
-    behind =
-        let k : length (drop (at + 34) routes) ≡ length routes - (at + 34) = length-drop (at + 34) routes in
-        let n : (length routes - (at + 34)) / 34 ≡ left - 1 = omega arith in
-        rw (take_all (length routes - (at + 34)) (drop (at + 34) routes) (omega arith), k, n)
+  -- f is what the search among the routes behind says
+  module _ (f : Option ℕ) (search-behind : f ≡ find_row (take 33 route) (route_rows behind)) where
+    twice_found : none_twice (route_rows l) ≡ (not (is_at f) && none_twice (route_rows behind))
+    unfolding none_twice
+    twice_found =
+        let k : length (take 33 route) ≡ 33 = omega (arith, length-take 33 route, ap length cut.0, length-take 34 l) in
+        rw (one_route, listed_found (take 33 route) (route_rows behind) k, sym search-behind)
 
-    -- f is what the search among the routes behind says
-    module _ (f : Found) (search-behind : f ≡ find_row (take (at + 33 - at) (drop at routes)) (whole_rows 34 (take (length routes - (at + 34)) (drop (at + 34) routes)))) where
-      twice_found : none_twice (rows 34 left (drop at routes)) ≡ (not (is_at f) && none_twice (rows 34 (left - 1) (drop (at + 34) routes)))
-      twice_found =
-          let k : length (part at 33 routes) ≡ 33 = simp (length-take, length-drop) (omega arith) in
-          let d : at + 33 - at ≡ 33 = omega arith in
-          let e : f ≡ find_row (part at 33 routes) (rows 34 (left - 1) (drop (at + 34) routes)) = rw (d, behind) at search-behind in
-          twice_step ∙ rw (listed_found (part at 33 routes) (rows 34 (left - 1) (drop (at + 34) routes)) k, sym e)
+    pub twice_next : f ≡ None → none_twice (route_rows l) ≡ none_twice (route_rows behind)
+    unfolding is_at
+    twice_next e = twice_found ∙ rw e
 
-      pub twice_next : f ≡ Nothing → none_twice (rows 34 left (drop at routes)) ≡ none_twice (rows 34 (left - 1) (drop (at + 34) routes))
-      unfolding is_at
-      twice_next e = twice_found ∙ rw e
+    pub twice_stop : (i : ℕ) → f ≡ Some i → none_twice (route_rows l) ≡ false
+    unfolding is_at
+    twice_stop i e = twice_found ∙ rw e
 
-      pub twice_stop : (i : ℕ) → f ≡ At i → none_twice (rows 34 left (drop at routes)) ≡ false
-      unfolding is_at
-      twice_stop i e = twice_found ∙ rw e
-
-pub twice_end : (left : ℕ) (l : List ℕ) → left ≤ 0 → none_twice (rows 34 left l) ≡ true
+pub twice_end : (l : List ℕ) → length l < 34 → none_twice (route_rows l) ≡ true
 unfolding none_twice rows
-twice_end zero l p = refl
-twice_end (suc n) l p = absurd (omega arith)
+twice_end l p = let e : length l / 34 ≡ 0 = omega arith in rw e
 
-pub exist_end : (left : ℕ) (l : List ℕ) → left ≤ 0 → partitions_exist (rows 34 left l) ≡ true
-unfolding partitions_exist rows
-exist_end zero l p = refl
-exist_end (suc n) l p = absurd (omega arith)
+-- the test of each route
+pub exist_all : (l : List (List ℕ)) → list_all (λ r. leb (get_or r 33 0) 7) l ≡ partitions_exist l
+unfolding partitions_exist
+exist_all [] = refl
+exist_all (r ∷ l) = ap (λ (b : Bool). leb (get_or r 33 0) 7 && b) (exist_all l)
 
 -- ---- question 3 answered yes
 pub number_0_or_3 : (routes : List ℕ) → (routes_number routes ≡ 0) ⊎ (routes_number routes ≡ 3)
@@ -347,10 +348,19 @@ the_order_of_the_routes_does_not_matter a b m p q f g = ⊎_elim one none (route
     none t = an_unlisted_address_gets_0 a m t ∙ sym (an_unlisted_address_gets_0 b m (λ r h e. t r (g r h) e))
 
 -- ---- the call
-pub refused_by_3 : (routes m : List ℕ) → (routes_number routes ≡ 0 → ⊥) → get_partition routes m ≡ answer_of Refused
+pub refused_by_3 : (routes m : List ℕ) → (routes_number routes ≡ 0 → ⊥) → get_partition routes m ≡ answer_of (Err RoutesUnsound)
 unfolding get_partition unless_refused
 refused_by_3 routes m p = ⊎_elim (λ (e : routes_number routes ≡ 0). absurd (p e)) (λ (e : routes_number routes ≡ 3). rw e) (number_0_or_3 routes)
 
-pub answered : (routes m : List ℕ) → routes_number routes ≡ 0 → get_partition routes m ≡ answer_of (Partition (partition_of routes m))
+-- what `check_routes` answered is handed on
+pub refused_on : (q : Result ℕ Refusal) (r : Refusal) (routes m : List ℕ) → IsErr q × IsErrAnd q (λ x. x ≡ r) → number_of r ≡ routes_number routes → answer_of q ≡ get_partition routes m
+refused_on q r routes m h e =
+    let three = ⊎_elim (λ (z : routes_number routes ≡ 0). absurd (refused_is_not_done r (e ∙ z))) (λ (z : routes_number routes ≡ 3). e ∙ z) (number_0_or_3 routes) in
+    ap answer_of (handed_on q r h) ∙ (ap (λ (n : ℕ). record_of n) three ∙ sym (refused_by_3 routes m (λ z. refused_is_not_done r (e ∙ z))))
+  where
+    record_of : ℕ → Answer
+    record_of n = record { number = n; value = 0 }
+
+pub answered : (routes m : List ℕ) → routes_number routes ≡ 0 → get_partition routes m ≡ answer_of (Ok (partition_of routes m))
 unfolding get_partition unless_refused
 answered routes m e = rw e

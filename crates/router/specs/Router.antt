@@ -1,11 +1,10 @@
 -- Which partition a message goes to (document 01, "Ours, and which partition"), and question 3.
 -- A route is 34 bytes: workchain 1, account 32, partition 1; a message is 33: workchain 1, account 32.
-use Rattle.std.specs.Prelude.{ℕ, zero, suc, ◌+◌, ◌*◌, ◌%◌, List, [], ◌∷◌, Bool, true, false, not, ◌&&◌, ◌||◌, leb, eqb, length, take, get_or}
+use Rattle.std.specs.Prelude.{ℕ, zero, suc, ◌+◌, ◌*◌, ◌%◌, List, [], ◌∷◌, Bool, true, false, not, ◌&&◌, ◌||◌, leb, eqb, length, take, get_or, Result, Ok, Err}
+use Rattle.refusals.specs.declared.Refusal.{Refusal}
+use Rattle.refusals.specs.Refusals.{number_of}
 use Rattle.rows.specs.Rows.{pick, same_bytes, whole_rows}
-use Rattle.rows.specs.declared.Found.{Found}
-use Rattle.rows.specs.declared.Found.TheVariants.{At, Nothing}
-use Rattle.router.specs.declared.Routed.{Routed}
-use Rattle.router.specs.declared.Routed.TheVariants.{Refused, Partition}
+use Rattle.std.specs.Prelude.{Option, Some, None}
 
 abbrev pub route_rows : List ℕ → List (List ℕ)
 route_rows routes = whole_rows 34 routes
@@ -55,19 +54,19 @@ unfoldable pub partition_of : List ℕ → List ℕ → ℕ
 partition_of routes message = first_partition message (route_rows routes)
 
 -- the partition that stands in the row that was found
-abbrev pub partition_at : List ℕ → Found → ℕ
-partition_at routes (At i) = get_or routes (34 * i + 33) 0
-partition_at routes Nothing = 0
+abbrev pub partition_at : List ℕ → Option ℕ → ℕ
+partition_at routes (Some i) = get_or routes (34 * i + 33) 0
+partition_at routes None = 0
 
 -- ---- the call
 pub record Answer : Type 0 where
   pub number : ℕ
   pub value : ℕ
 
--- document 01's number and value for each case of the enum
-abbrev pub answer_of : Routed → Answer
-answer_of Refused = record { number = 3; value = 0 }
-answer_of (Partition p) = record { number = 0; value = p }
+-- document 01's number and value of a result
+abbrev pub answer_of : Result ℕ Refusal → Answer
+answer_of (Ok p) = record { number = 0; value = p }
+answer_of (Err r) = record { number = number_of r; value = 0 }
 
 -- a refusal gives only the number
 unfoldable pub unless_refused : ℕ → ℕ → Answer

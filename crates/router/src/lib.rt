@@ -2,9 +2,10 @@
 #![tactic(auto)]
 
 ghost use Rattle.std.specs.Prelude.{◌≡◌};
+ghost use Rattle.refusals.specs.Refusals.{number};
 ghost use Rattle.router.specs.Router.{route_rows, none_twice, partitions_exist, routes_number, partition_of, answer_of, get_partition};
 
-use rows::Found;
+use refusals::Refusal;
 
 pub const MAX_ROUTES: usize = 256;
 
@@ -15,28 +16,17 @@ pub const MESSAGE_LEN: usize = 33;
 
 pub const ROUTE_LEN: usize = 34;
 
-// Refused: question 3's number. Partition: number 0 and the value.
-#[derive(Clone, Copy)]
-pub enum Routed {
-    Refused,
-    Partition(u8),
-}
-
 // Each address is looked for among the routes behind it.
 fn none_twice(routes: &[u8]) -> bool
     ensures { result ≡ none_twice (route_rows routes.now) }
 {
-    let mut at = 0;
-    let mut left = routes.len() / ROUTE_LEN;
-    while 0 < left {
-        let address = &routes[at..at + MESSAGE_LEN];
-        let behind = &routes[at + ROUTE_LEN..];
-        let again = rows::find_row(behind, ROUTE_LEN, address);
-        let Found::Nothing = again else {
+    let mut left = routes;
+    while let Some((route, behind)) = left.split_at_checked(ROUTE_LEN) {
+        let address = &route[..MESSAGE_LEN];
+        let None = rows::find_row(behind, ROUTE_LEN, address) else {
             return false;
         };
-        at += ROUTE_LEN;
-        left -= 1;
+        left = behind;
     }
     true
 }
@@ -44,35 +34,23 @@ fn none_twice(routes: &[u8]) -> bool
 fn partitions_exist(routes: &[u8]) -> bool
     ensures { result ≡ partitions_exist (route_rows routes.now) }
 {
-    let mut at = 0;
-    let mut left = routes.len() / ROUTE_LEN;
-    while 0 < left {
-        if MAX_PARTITION < routes[at + MESSAGE_LEN] {
-            return false;
-        }
-        at += ROUTE_LEN;
-        left -= 1;
-    }
-    true
+    routes
+        .chunks_exact(ROUTE_LEN)
+        .all(|route| rows::byte_at(route, MESSAGE_LEN) <= MAX_PARTITION)
 }
 
-// Question 3: 0 or 3.
-pub fn check_routes(routes: &[u8]) -> u8
-    ensures { result ≡ routes_number routes.now }
+// Question 3.
+pub fn check_routes(routes: &[u8]) -> Result<(), Refusal>
+    ensures { number result ≡ routes_number routes.now }
 {
-    if routes.len() % ROUTE_LEN != 0 {
-        return 3;
+    if routes.len() % ROUTE_LEN != 0
+        || MAX_ROUTES < routes.len() / ROUTE_LEN
+        || !none_twice(routes)
+        || !partitions_exist(routes)
+    {
+        return Err(Refusal::RoutesUnsound);
     }
-    if MAX_ROUTES < routes.len() / ROUTE_LEN {
-        return 3;
-    }
-    if !none_twice(routes) {
-        return 3;
-    }
-    if !partitions_exist(routes) {
-        return 3;
-    }
-    0
+    Ok(())
 }
 
 // For a caller that has asked question 3.
@@ -82,19 +60,16 @@ pub fn partition_of(routes: &[u8], message: &[u8]) -> u8
     if message.len() != MESSAGE_LEN {
         return 0;
     }
-    let found = rows::find_row(routes, ROUTE_LEN, message);
-    let Found::At(i) = found else {
+    let Some(i) = rows::find_row(routes, ROUTE_LEN, message) else {
         return 0;
     };
     rows::byte_at(routes, ROUTE_LEN * i + MESSAGE_LEN)
 }
 
 // The partition of a message; a message that is not 33 bytes long is unlisted.
-pub fn get_partition(routes: &[u8], message: &[u8]) -> Routed
+pub fn get_partition(routes: &[u8], message: &[u8]) -> Result<u8, Refusal>
     ensures { answer_of result ≡ get_partition routes.now message.now }
 {
-    if check_routes(routes) != 0 {
-        return Routed::Refused;
-    }
-    Routed::Partition(partition_of(routes, message))
+    check_routes(routes)?;
+    Ok(partition_of(routes, message))
 }

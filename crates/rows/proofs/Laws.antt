@@ -6,16 +6,21 @@ use mathlib.Core.List.{List, [], ◌∷◌, ◌++◌, append_assoc, append-nil, 
 use mathlib.Core.Logic.{⊎_elim}
 use mathlib.Core.Bool.{Bool, true, false, not, ◌&&◌, ◌||◌}
 use lib.Dec.{leb, eqb}
-use borrow.Author.Tests.{not-true, not-false, leb-true, leb-false, le-leb, lt-leb, eqb-true, eq-eqb}
+use borrow.Author.Tests.{not-true, not-false, leb-true, leb-false, le-leb, lt-leb, eqb-true, eq-eqb, ne_eqb}
 use native.Mathlib.Omega.{arith}
-use native.Mathlib.Nat.{pow-zero, pow-suc, pow-succ', div-lt_iff_lt-mul, mod-add-div, mul_assoc, mul-suc, mul-zero, mul-le-mul_left, mul-div-le, one-le-pow}
+use native.Mathlib.Nat.{pow-zero, pow-suc, pow-succ', div-lt_iff_lt-mul, mod-add-div, mul_assoc, mul_comm, mul-suc, mul-zero, mul-le-mul_left, mul-div-le, one-le-pow, add-div_left, div-eq_of_lt}
 use native.Mathlib.Numerals.{add-one}
-use lib.ListN.{length, take, drop, get_or, set, length-take, length-drop, drop_of_length-le, get_or-eq_default}
+use lib.ListN.{length, length-append, take, drop, get_or, set, length-take, length-drop, get_or-eq_default}
 use lib.Seq.{sets, sets-eq, length-sets, drop-cons, take-suc, get_or-drop, get_or-take, drop-drop, take-nil, take-take, take-add, take_all, take_at, drop_at, take-append-le, drop-append-le, length-take-le, take-set-le, drop-set-lt, get_or-set_other, drop-length}
+use borrow.Rule.Slice.PartMut.{put_mid}
+use denote.Ref.{Bor}
+use Rattle.std.specs.Array.{IsFirstChunk}
+use Rattle.std.specs.Slice.{IsGetRangeResult}
+use Rattle.std.specs.Int.{sum_through, byte_worth}
+use Rattle.std.specs.Cmp.Lexicographic.{pointwise}
 use Rattle.rows.specs.Rows.{pick, part, le, word, rows, stays, appended, num_at, written, moved_down, fits, append_answer, appended_if_fits, same_bytes, starts_with, whole_rows, later, find_row}
 use Rattle.rows.specs.declared.Appended.TheVariants.{Behind, Moved, NoRoom}
-use Rattle.rows.specs.declared.Found.{Found}
-use Rattle.rows.specs.declared.Found.TheVariants.{At, Nothing}
+use Rattle.std.specs.Prelude.{Option, Some, None, MatchOption, unwrap_or, option_copied}
 
 -- ---- parts
 pub part_length : {A : Type 0} (l : List A) (at n : ℕ) → at + n ≤ length l → length (part at n l) ≡ n
@@ -81,12 +86,11 @@ get_d_after d l i j (v ∷ vs) p = get_d_after d (set l i v) (suc i) j vs (omega
 pub sets_snoc : {A : Type 0} (l : List A) (i : ℕ) (vs : List A) (v : A) → sets l i (vs ++ (v ∷ [])) ≡ set (sets l i vs) (i + length vs) v
 sets_snoc l i vs v = sets_append l i vs (v ∷ [])
 
--- a turn of a copy, and of a move down
-pub copy_more : {A : Type 0} (d : A) (l : List A) (at : ℕ) (src : List A) (i : ℕ) → i < length src → set (sets l at (take i src)) (at + i) (get_or src i d) ≡ sets l at (take (i + 1) src)
-copy_more d l at src i p =
-    let e : length (take i src) ≡ i = length-take-le i src (omega arith) in
-    rw (add-one i, take-suc src i d p, sets_snoc l at (take i src) (get_or src i d), e)
+-- what a slice holds after a store in a part of it
+pub part_stored : {A : Type 0} (l : List A) (at k : ℕ) (vs : List A) → at + length vs ≤ length l → k ≡ length vs → put_mid at k l vs ≡ sets l at vs
+part_stored l at k vs h e = rw (e, drop-drop (length vs) at l, sets-eq vs l at h, append_assoc)
 
+-- a turn of a move down
 pub move_more : {A : Type 0} (d : A) (l : List A) (from to i : ℕ) → to ≤ from → from + i < length l
     → set (sets l to (part from i l)) (to + i) (get_or (sets l to (part from i l)) (from + i) d) ≡ sets l to (part from (i + 1) l)
 move_more d l from to i p q =
@@ -193,11 +197,6 @@ pub word_halves : (l : List ℕ) (at k m : ℕ) → at + k ≤ length l → word
 word_halves l at k m h =
     let e : length (part at k l) ≡ k = part_length l at k h in
     rw (part_add l at k m, word_append (part at k l) (part (at + k) m l), e)
-
-pub word_two : (l : List ℕ) (at : ℕ) → at + 2 ≤ length l → word (part at 2 l) ≡ get_or l at 0 + 256 * get_or l (at + 1) 0
-unfolding word
-word_two l at h =
-    rw (part_cons 0 l at 2 (omega arith) h, part_cons 0 l (at + 1) 1 (omega arith) (omega arith)) (omega arith)
 
 pub part_part : {A : Type 0} (l : List A) (at m a n : ℕ) → a + n ≤ m → part a n (part at m l) ≡ part (at + a) n l
 part_part l at m a n p =
@@ -334,6 +333,10 @@ pub pick_no : {A : Type 0} (b : Bool) (x y : A) → b ≡ false → pick b x y �
 pick_no true x y e = absurd (let z : ◌≡◌ {A = ℕ} 0 1 = cc in omega arith)
 pick_no false x y e = refl
 
+pub and_picked : (a b : Bool) → (a && b) ≡ pick a b false
+and_picked true b = refl
+and_picked false b = refl
+
 pub pick_same : {A : Type 0} (b : Bool) (x : A) → pick b x x ≡ x
 pick_same true x = refl
 pick_same false x = refl
@@ -380,6 +383,49 @@ num_past k at l h = rw (lt-leb _ _ h)
 pub num_halves : (k m at : ℕ) (l : List ℕ) → at + (k + m) ≤ length l → num_at (k + m) at l ≡ num_at k at l + 256 ^ k * num_at m (at + k) l
 num_halves k m at l h =
     rw (num_in (k + m) at l h, num_in k at l (omega arith), num_in m (at + k) l (omega arith)) (word_halves l at k m (omega arith))
+
+-- std's number of the lowest byte first is the word
+le_sum : (l : List ℕ) (k : ℕ) → k < length l → sum_through (λ (i : ℕ). byte_worth i (get_or l i 0)) k ≡ word (take (suc k) l)
+unfolding word
+le_sum [] k p = absurd (omega arith)
+le_sum (x ∷ l) zero p = omega arith
+le_sum (x ∷ l) (suc k) p =
+    let h = le_sum (x ∷ l) k (omega arith) in
+    let q : k < length l = omega arith in
+    let n : length (take k l) ≡ k = length-take-le k l (omega arith) in
+    let y = get_or l k 0 in
+    let e : y * 256 ^ suc k ≡ 256 * (256 ^ k * y) = mul_comm y (256 ^ suc k) ∙ rw pow-succ' (mul_assoc 256 (256 ^ k) y) in
+    rw (h, take-suc l k 0 q, word_append (take k l) (y ∷ []), n) (omega (arith, e))
+
+-- the number at the front, from the array that the library finds there
+pub num_front : (k : ℕ) (l : List ℕ) (o : Option (Bor (List ℕ))) (p : Option (List ℕ)) (n : ℕ) → MatchOption o (length l < suc k) (λ y. IsFirstChunk l y.now (suc k)) → p ≡ option_copied o
+    → MatchOption p (n ≡ 0) (λ y. n ≡ sum_through (λ (i : ℕ). byte_worth i (get_or y i 0)) k) → n ≡ num_at (suc k) 0 l
+num_front k l None None n h f e = e ∙ sym (num_past (suc k) 0 l (omega arith))
+num_front k l None (Some z) n h f e = absurd (cc)
+num_front k l (Some y) None n h f e = absurd (cc)
+num_front k l (Some y) (Some z) n h f e =
+    let m : length y.now ≡ suc k = rw h.same (length-take-le (suc k) l h.enough) in
+    let q : take (suc k) y.now ≡ take (suc k) l = take_all (suc k) y.now (omega arith) ∙ h.same in
+    let j : z ≡ y.now = cc in
+    rw j at e ∙ (le_sum y.now k (omega arith) ∙ (ap word q ∙ sym (num_in (suc k) 0 l (omega (arith, h.enough)))))
+
+-- the number at a place is the one at the front of what stands from there on
+num_none : (k at : ℕ) (l : List ℕ) → length l < at → num_at k 0 [] ≡ num_at k at l
+unfolding num_at word
+num_none zero at l p = sym (num_past 0 at l (omega arith))
+num_none (suc k) at l p = num_past (suc k) 0 [] (omega arith) ∙ sym (num_past (suc k) at l (omega arith))
+
+num_rest : (k at : ℕ) (l : List ℕ) → at ≤ length l → num_at k 0 (drop at l) ≡ num_at k at l
+unfolding num_at
+num_rest k at l p =
+    let e : length (drop at l) ≡ length l - at = length-drop at l in
+    rw (leb_same (0 + k) (length (drop at l)) (at + k) (length l) (λ h. omega arith) (λ h. omega arith))
+
+pub num_behind : (k at : ℕ) (l : List ℕ) (o : Option (Bor (List ℕ))) (d : Bor (List ℕ)) → d.now ≡ [] → IsGetRangeResult l at (length l) o → num_at k 0 (unwrap_or o d).now ≡ num_at k at l
+num_behind k at l None d e h = rw e (num_none k at l (⊎_elim (λ (p : length l < at). p) (λ (p : length l < length l). absurd (omega arith)) h.0))
+num_behind k at l (Some y) d e h =
+    let f : y.now ≡ drop at l = h.0.2 ∙ take_all (length l - at) (drop at l) (omega (arith, length-drop at l)) in
+    rw f (num_rest k at l h.0.0)
 
 pub written_in : (at : ℕ) (vs l : List ℕ) → at + length vs ≤ length l → written at vs l ≡ sets l at vs
 unfolding written
@@ -498,14 +544,6 @@ same_true (x ∷ a) (y ∷ b) e = go (eqb x y) refl e (same_true a b)
         cc
     go false f g h = absurd (let z : ◌≡◌ {A = ℕ} 0 1 = cc in omega arith)
 
-pub same_step : (a b : List ℕ) (i : ℕ) → i < length a → i < length b → same_bytes (drop i a) (drop i b) ≡ pick (eqb (get_or a i 0) (get_or b i 0)) (same_bytes (drop (i + 1) a) (drop (i + 1) b)) false
-unfolding same_bytes
-same_step a b i p q = rw (add-one i, drop-cons a i 0 p, drop-cons b i 0 q)
-
-pub same_end : (a b : List ℕ) (i : ℕ) → length a ≤ i → length b ≤ i → same_bytes (drop i a) (drop i b) ≡ true
-unfolding same_bytes
-same_end a b i p q = rw (drop_of_length-le a p, drop_of_length-le b q)
-
 -- bytes of another length are not the same
 pub same_length : (a b : List ℕ) → (length a ≡ length b → ⊥) → same_bytes a b ≡ false
 same_length a b p = go (same_bytes a b) refl
@@ -514,51 +552,58 @@ same_length a b p = go (same_bytes a b) refl
     go true e = absurd (p (ap length (same_true a b e)))
     go false e = e
 
--- a slice's start against a key, byte by byte
-module _ (key s : List ℕ) where
-  pub start_short : length s < length key → starts_with key s ≡ false
-  start_short p = same_length (take (length key) s) key (λ e. omega (arith, length-take (length key) s, e))
+-- the library's comparison of a key with a slice's start is ours
+eqb_turned : (x y : ℕ) → eqb y x ≡ eqb x y
+eqb_turned x y = go (eqb x y) refl
+  where
+    go : (t : Bool) → eqb x y ≡ t → eqb y x ≡ eqb x y
+    go true e = let h = eqb-true x y e in rw h
+    go false e = ne_eqb y x (λ h. let k = eq-eqb x y (sym h) in never (sym k ∙ e)) ∙ sym e
 
-  module _ (i : ℕ) (long : length key ≤ length s) where
-    pub start_step : i < length key
-        → same_bytes (drop i (take (length key) s)) (drop i key) ≡ pick (eqb (get_or s i 0) (get_or key i 0)) (same_bytes (drop (i + 1) (take (length key) s)) (drop (i + 1) key)) false
-    start_step p =
-        let k : length (take (length key) s) ≡ length key = length-take-le (length key) s long in
-        let g : get_or (take (length key) s) i 0 ≡ get_or s i 0 = get_or-take (length key) s i 0 p in
-        same_step (take (length key) s) key i (omega arith) p ∙ rw g
-
-    pub start_end : length key ≤ i → same_bytes (drop i (take (length key) s)) (drop i key) ≡ true
-    start_end p =
-        let k : length (take (length key) s) ≡ length key = length-take-le (length key) s long in
-        same_end (take (length key) s) key i (omega arith) p
+pub same_pointwise : (a b : List ℕ) → pointwise eqb b a ≡ same_bytes a b
+unfolding same_bytes
+same_pointwise [] [] = refl
+same_pointwise [] (y ∷ b) = refl
+same_pointwise (x ∷ a) [] = refl
+same_pointwise (x ∷ a) (y ∷ b) = rw (eqb_turned x y, same_pointwise a b) (and_picked (eqb x y) (same_bytes a b))
 
 -- ---- the first row that begins with a key
-pub later_later : (m n : ℕ) (f : Found) → later m (later n f) ≡ later (m + n) f
-later_later m n (At i) = let e : m + (n + i) ≡ m + n + i = omega arith in rw e
-later_later m n Nothing = refl
+pub later_later : (m n : ℕ) (f : Option ℕ) → later m (later n f) ≡ later (m + n) f
+later_later m n (Some i) = let e : m + (n + i) ≡ m + n + i = omega arith in rw e
+later_later m n None = refl
 
-pub later_none : (f : Found) → later 0 f ≡ f
-later_none (At i) = let e : 0 + i ≡ i = omega arith in rw e
-later_none Nothing = refl
+pub later_none : (f : Option ℕ) → later 0 f ≡ f
+later_none (Some i) = let e : 0 + i ≡ i = omega arith in rw e
+later_none None = refl
 
--- one row of w bytes less
-pub rows_left : (w n : ℕ) → 0 < n → w * n ≡ w + w * (n - 1)
-rows_left w zero p = absurd (omega arith)
-rows_left w (suc n) p = let e : suc n - 1 ≡ n = omega arith in rw e (mul_more w n)
+-- the whole rows behind a first one; of fewer bytes than a row there are none
+pub whole_cons : (w : ℕ) (row l : List ℕ) → 0 < w → length row ≡ w → whole_rows w (row ++ l) ≡ row ∷ whole_rows w l
+unfolding rows
+whole_cons w row l p e =
+    let d : length (row ++ l) / w ≡ suc (length l / w) = rw (length-append row l, e) (add-div_left (length l) p ∙ omega arith) in
+    rw (d, take_at row l w (omega arith), drop_at row l w (omega arith))
+
+pub whole_none : (w : ℕ) (l : List ℕ) → length l < w → whole_rows w l ≡ []
+unfolding rows
+whole_none w l p = rw (div-eq_of_lt p)
 
 -- a turn of the search, at the i-th row
-module _ (key : List ℕ) (w at left i : ℕ) (l : List ℕ) where
-  pub find_here : 0 < left → starts_with key (part at w l) ≡ true → later i (find_row key (rows w left (drop at l))) ≡ At i
+module _ (key row : List ℕ) (l : List (List ℕ)) (i : ℕ) where
+  pub find_here : starts_with key row ≡ true → later i (find_row key (row ∷ l)) ≡ Some i
   unfolding find_row
-  find_here p e = let z : i + 0 ≡ i = omega arith in rw (rows_cons w left at l p, e, z)
+  find_here e = let z : i + 0 ≡ i = omega arith in rw (e, z)
 
-  pub find_next : 0 < left → starts_with key (part at w l) ≡ false → later i (find_row key (rows w left (drop at l))) ≡ later (i + 1) (find_row key (rows w (left - 1) (drop (at + w) l)))
+  pub find_next : starts_with key row ≡ false → later i (find_row key (row ∷ l)) ≡ later (i + 1) (find_row key l)
   unfolding find_row
-  find_next p e = rw (rows_cons w left at l p, e) (later_later i 1 (find_row key (rows w (left - 1) (drop (at + w) l))))
+  find_next e = rw e (later_later i 1 (find_row key l))
 
-  pub find_end : left ≤ 0 → later i (find_row key (rows w left (drop at l))) ≡ Nothing
-  unfolding find_row rows
-  find_end p = let e : left ≡ 0 = omega arith in rw e
+-- the same where the rows are those of bytes from which one row was taken
+module _ (key : List ℕ) (w i : ℕ) (row l m : List ℕ) (wide : 0 < w) (taken : m ≡ row ++ l) (whole : length row ≡ w) where
+  pub find_here_in : starts_with key row ≡ true → later i (find_row key (whole_rows w m)) ≡ Some i
+  find_here_in e = rw (taken, whole_cons w row l wide whole) (find_here key row (whole_rows w l) i e)
+
+  pub find_next_in : starts_with key row ≡ false → later i (find_row key (whole_rows w m)) ≡ later (i + 1) (find_row key (whole_rows w l))
+  find_next_in e = rw (taken, whole_cons w row l wide whole) (find_next key row (whole_rows w l) i e)
 
 -- the i-th row
 pub rows_at : (w n i : ℕ) (l : List ℕ) → i < n → get_or (rows w n l) i [] ≡ part (w * i) w l
@@ -577,35 +622,35 @@ rows_wide w (suc n) l r p m =
     ⊎_elim (λ (h : r ≡ take w l). rw h (length-take-le w l (omega arith))) (rows_wide w n (drop w l) r q) (Memᴰ.cases_cons m)
 
 -- what a found row is, and that no row is one where none was found
-pub found_at : (key : List ℕ) (l : List (List ℕ)) (i : ℕ) → find_row key l ≡ At i → (i < length l) × (starts_with key (get_or l i []) ≡ true)
+pub found_at : (key : List ℕ) (l : List (List ℕ)) (i : ℕ) → find_row key l ≡ Some i → (i < length l) × (starts_with key (get_or l i []) ≡ true)
 unfolding find_row
 found_at key [] i e = absurd (let z : ◌≡◌ {A = ℕ} 0 1 = cc in omega arith)
 found_at key (r ∷ l) i e = go (starts_with key r) refl (find_row key l) refl e (found_at key l)
   where
-    go : (b : Bool) → starts_with key r ≡ b → (f : Found) → find_row key l ≡ f → pick b (At 0) (later 1 f) ≡ At i
-        → ((j : ℕ) → find_row key l ≡ At j → (j < length l) × (starts_with key (get_or l j []) ≡ true))
+    go : (b : Bool) → starts_with key r ≡ b → (f : Option ℕ) → find_row key l ≡ f → pick b (Some 0) (later 1 f) ≡ Some i
+        → ((j : ℕ) → find_row key l ≡ Some j → (j < length l) × (starts_with key (get_or l j []) ≡ true))
         → (i < length (r ∷ l)) × (starts_with key (get_or (r ∷ l) i []) ≡ true)
     go true s f q e h = let z : 0 ≡ i = cc in (omega arith, rw (sym z) s)
-    go false s (At j) q e h =
+    go false s (Some j) q e h =
         let z : 1 + j ≡ i = cc in
         let y : i ≡ suc j = omega arith in
         let k = h j q in
         rw y (omega arith, k.1)
-    go false s Nothing q e h = absurd (let z : ◌≡◌ {A = ℕ} 0 1 = cc in omega arith)
+    go false s None q e h = absurd (let z : ◌≡◌ {A = ℕ} 0 1 = cc in omega arith)
 
-pub found_none : (key : List ℕ) (l : List (List ℕ)) (r : List ℕ) → find_row key l ≡ Nothing → Memᴰ r l → starts_with key r ≡ false
+pub found_none : (key : List ℕ) (l : List (List ℕ)) (r : List ℕ) → find_row key l ≡ None → Memᴰ r l → starts_with key r ≡ false
 unfolding find_row
 found_none key [] r e m = absurd (Memᴰ.not-nil m)
 found_none key (x ∷ l) r e m = go (starts_with key x) refl (find_row key l) refl e (found_none key l r)
   where
-    go : (b : Bool) → starts_with key x ≡ b → (f : Found) → find_row key l ≡ f → pick b (At 0) (later 1 f) ≡ Nothing
-        → (find_row key l ≡ Nothing → Memᴰ r l → starts_with key r ≡ false) → starts_with key r ≡ false
+    go : (b : Bool) → starts_with key x ≡ b → (f : Option ℕ) → find_row key l ≡ f → pick b (Some 0) (later 1 f) ≡ None
+        → (find_row key l ≡ None → Memᴰ r l → starts_with key r ≡ false) → starts_with key r ≡ false
     go true s f q e h = absurd (let z : ◌≡◌ {A = ℕ} 0 1 = cc in omega arith)
-    go false s (At j) q e h = absurd (let z : ◌≡◌ {A = ℕ} 0 1 = cc in omega arith)
-    go false s Nothing q e h = ⊎_elim (λ (k : r ≡ x). rw k s) (h q) (Memᴰ.cases_cons m)
+    go false s (Some j) q e h = absurd (let z : ◌≡◌ {A = ℕ} 0 1 = cc in omega arith)
+    go false s None q e h = ⊎_elim (λ (k : r ≡ x). rw k s) (h q) (Memᴰ.cases_cons m)
 
 -- a found row lies in the bytes
-pub found_within : (key : List ℕ) (w : ℕ) (l : List ℕ) (i : ℕ) → find_row key (whole_rows w l) ≡ At i → w * i + w ≤ length l
+pub found_within : (key : List ℕ) (w : ℕ) (l : List ℕ) (i : ℕ) → find_row key (whole_rows w l) ≡ Some i → w * i + w ≤ length l
 found_within key w l i e =
     let n = length l / w in
     let p = (found_at key (whole_rows w l) i e).0 in

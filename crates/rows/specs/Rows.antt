@@ -1,10 +1,8 @@
 -- Bytes of a lent table: parts, numbers of k bytes with the lowest first, stores, and rows of one width.
-use Rattle.std.specs.Prelude.{ℕ, zero, suc, ◌+◌, ◌*◌, ◌/◌, ◌%◌, List, [], ◌∷◌, Bool, true, false, ◌&&◌, leb, eqb, length, take, drop}
+use Rattle.std.specs.Prelude.{ℕ, zero, suc, ◌+◌, ◌*◌, ◌/◌, ◌%◌, List, [], ◌∷◌, Bool, true, false, ◌&&◌, leb, eqb, length, take, drop, Option, Some, None}
 use Rattle.std.proofs.lemmas.List.Edits.{sets}
 use Rattle.rows.specs.declared.Appended.{Appended}
 use Rattle.rows.specs.declared.Appended.TheVariants.{Behind, Moved, NoRoom}
-use Rattle.rows.specs.declared.Found.{Found}
-use Rattle.rows.specs.declared.Found.TheVariants.{At, Nothing}
 
 abbrev pub pick : {A : Type 0} → Bool → A → A → A
 pick true a b = a
@@ -61,6 +59,12 @@ append_answer start from n k cap len = pick (fits start from n k cap len) (pick 
 unfoldable pub appended_if_fits : ℕ → ℕ → ℕ → ℕ → List ℕ → List ℕ → List ℕ
 appended_if_fits start from n cap new l = pick (fits start from n (length new) cap (length l)) (appended start from n cap new l) l
 
+-- where the bytes of a table begin after an append, if they began at `first`
+abbrev pub placed_at : Appended → ℕ → ℕ
+placed_at Behind first = first
+placed_at Moved first = 0
+placed_at NoRoom first = first
+
 -- ---- rows that begin with a key
 unfoldable pub same_bytes : List ℕ → List ℕ → Bool
 same_bytes [] [] = true
@@ -76,11 +80,11 @@ abbrev pub whole_rows : ℕ → List ℕ → List (List ℕ)
 whole_rows w bytes = rows w (length bytes / w) bytes
 
 -- an index counted from n on
-abbrev pub later : ℕ → Found → Found
-later n (At i) = At (n + i)
-later n Nothing = Nothing
+abbrev pub later : ℕ → Option ℕ → Option ℕ
+later n (Some i) = Some (n + i)
+later n None = None
 
 -- the index of the first row that begins with the key
-unfoldable pub find_row : List ℕ → List (List ℕ) → Found
-find_row key [] = Nothing
-find_row key (r ∷ l) = pick (starts_with key r) (At 0) (later 1 (find_row key l))
+unfoldable pub find_row : List ℕ → List (List ℕ) → Option ℕ
+find_row key [] = None
+find_row key (r ∷ l) = pick (starts_with key r) (Some 0) (later 1 (find_row key l))

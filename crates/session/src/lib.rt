@@ -3,10 +3,14 @@
 #![tactic(auto)]
 
 ghost use Rattle.std.specs.Prelude.{◌≡◌};
+ghost use Rattle.records.specs.Records.{kind_number};
 ghost use Rattle.session_rules.specs.Steps.{no_reader, reaches_reader, whole, whole_after};
+ghost use Rattle.session_state.specs.Dos.{do_byte};
 
 use reader_rules::ExternalsReader;
+use records::Kind;
 use session_rules::Session;
+use session_state::Do;
 
 mod reading;
 
@@ -24,14 +28,14 @@ pub fn no_reader() -> ExternalsReader
 }
 
 // The shard, the settings and the reads reach the reader.
-fn reaches(kind: u16, d: u8) -> bool
-    ensures { result ≡ reaches_reader kind d }
+#[tactic(auto, unfolding(session_rules::specs::Steps::reaches_reader))]
+fn reaches(kind: Kind, call: Do) -> bool
+    ensures { result ≡ reaches_reader (kind_number kind) (do_byte call) }
 {
     match kind {
-        records::SHARD => true,
-        records::SETTINGS => true,
-        records::DO => session_state::is_read(d),
-        _ => false,
+        Kind::Shard | Kind::Settings => true,
+        Kind::Do => call.is_read(),
+        Kind::Route | Kind::Anchor => false,
     }
 }
 
@@ -49,22 +53,23 @@ pub fn step(
     ensures { whole result.session result.reader tables.new area.new routes.new entries.new text.new
         ≡ whole_after «record».now (whole session reader tables.old area.old routes.old entries.old text.old) }
 {
-    if !session_state::is_taken(session, record) {
-        return Stepped {
+    match Kind::try_from(rows::num_at::<u16>(record, 0)) {
+        Ok(kind) if session_state::is_taken(session, record) => {
+            let next = session_state::record_counted(session);
+            let p = &record[2..];
+            if reaches(kind, Do::from(rows::byte_at(p, 0))) {
+                return reading::step(
+                    &*tables, &*area, &*routes, entries, text, next, reader, kind, p,
+                );
+            }
+            Stepped {
+                session: session_state::plain(tables, area, routes, text, next, kind, p),
+                reader,
+            }
+        }
+        _ => Stepped {
             session: session_state::malformed(text, session),
-            reader: reader,
-        };
-    }
-    let next = session_state::record_counted(session);
-    let kind = rows::u16_at(record, 0);
-    let p = &record[2..];
-    if reaches(kind, rows::byte_at(p, 0)) {
-        return reading::step(
-            &*tables, &*area, &*routes, entries, text, next, reader, kind, p,
-        );
-    }
-    Stepped {
-        session: session_state::plain(tables, area, routes, text, next, kind, p),
-        reader: reader,
+            reader,
+        },
     }
 }

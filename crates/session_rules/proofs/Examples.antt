@@ -14,7 +14,7 @@ use Rattle.records.specs.Records.{params_of, limits_of, limits_in}
 use Rattle.reader_rules.specs.Each.{each}
 use Rattle.reader_rules.specs.State.{held_ranges, sound_ranges_from, state_number, settings_number, settled_number, reader_number}
 use Rattle.reader_rules.specs.Rules.{with_default, partitions_entered}
-use Rattle.externals_reader.specs.declared.ReaderDone.{ReaderDone}
+use Rattle.externals_reader.specs.Answers.{ReaderDone}
 use Rattle.externals_reader.specs.Calls.{is_present, handed_in, new_call}
 use Rattle.session_rules.specs.declared.Session.{Session}
 use Rattle.session_rules.specs.Said.{with_transaction, with_routes_len, with_record_count, with_at, stop, record_counted, new_session, route_number, messages_of, ours_of, is_read, do_name}

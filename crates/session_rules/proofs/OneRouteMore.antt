@@ -8,9 +8,8 @@ use lib.Dec.{leb, ltb, eqb}
 use lib.ListN.{length, take, drop, get_or, length-append}
 use lib.Seq.{length-take-le, sets-eq, take_at}
 use borrow.Author.Tests.{leb-true, eqb-true, eq-eqb}
+use Rattle.std.specs.Prelude.{Option, Some, None}
 use Rattle.rows.specs.Rows.{pick, rows, same_bytes, later, find_row}
-use Rattle.rows.specs.declared.Found.{Found}
-use Rattle.rows.specs.declared.Found.TheVariants.{At, Nothing}
 use Rattle.rows.proofs.Laws.{pick_yes, rows_length, rows_snoc, written_in}
 use Rattle.router.proofs.Laws.{question_3_of_one_row_more}
 use Rattle.router.specs.Router.{route_rows, listed, none_twice, partitions_exist, sound_routes, routes_number, max_routes}
@@ -23,10 +22,10 @@ unfolding listed find_row
 listed_found a [] e = refl
 listed_found a (r ∷ l) e = rw e (go (same_bytes (take 33 r) a) (find_row a l) (listed_found a l e))
   where
-    go : (b : Bool) (f : Found) → listed a l ≡ not (is_nothing f) → (b || listed a l) ≡ not (is_nothing (pick b (At 0) (later 1 f)))
+    go : (b : Bool) (f : Option ℕ) → listed a l ≡ not (is_nothing f) → (b || listed a l) ≡ not (is_nothing (pick b (Some 0) (later 1 f)))
     go true f h = refl
-    go false (At i) h = h
-    go false Nothing h = h
+    go false (Some i) h = h
+    go false None h = h
 
 -- what question 3 says of whole rows
 asked_parts : (known : List ℕ) → routes_number known ≡ 0 → (length known % 34 ≡ 0) × (sound_routes (route_rows known) ≡ true)

@@ -12,7 +12,7 @@ use Rattle.range_rules.specs.Rules.{silent, followed}
 use Rattle.range_rules.specs.Rules.{Outcome as Walk}
 use Rattle.reader_rules.specs.declared.ExternalsReader.{ExternalsReader}
 use Rattle.reader_rules.specs.declared.GetNextMessageGroupMode.{GetNextMessageGroupMode}
-use Rattle.reader_rules.specs.declared.RangesRead.{RangesRead}
+use Rattle.reader_rules.specs.Turns.{RangesRead}
 use Rattle.reader_rules.specs.declared.Fixed.{Fixed}
 use Rattle.reader_rules.specs.Rules.{OneRange, mode_for, after_turn, is_skipped, turn, turns, is_over, with_next_range, wants_next, ranges_read, fixed_of, at_entry}
 use Rattle.reader_rules.specs.Rules.{settled as read}

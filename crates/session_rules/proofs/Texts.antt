@@ -14,7 +14,7 @@ use Rattle.rows.proofs.Laws.{pick_both, rows_length}
 use Rattle.anchors_cache.specs.declared.AnchorsCacheTransaction.{AnchorsCacheTransaction}
 use Rattle.reader_rules.specs.declared.ExternalsReader.{ExternalsReader}
 use Rattle.reader_rules.specs.declared.GetNextMessageGroupMode.{GetNextMessageGroupMode}
-use Rattle.externals_reader.specs.declared.ReadIntoBuffers.{ReadIntoBuffers}
+use Rattle.externals_reader.specs.Answers.{ReadAllAnswer}
 use Rattle.externals_reader.specs.Calls.{ReadAllResult, asked_of_read, all_ranges_read, read_all_call}
 use Rattle.text.specs.Shown.{places, decimal, spaced, line}
 use Rattle.lines.specs.Lines.{free_line, entry_lines, range_lines}
@@ -63,7 +63,7 @@ entries_length used out h =
     let m = mul-div-le (length l) entry_len in
     omega arith
 
-ranges_length : (a : ReadIntoBuffers) → length a.reader.reader_state.ranges ≤ max_ranges
+ranges_length : (a : ReadAllAnswer) → length a.reader.reader_state.ranges ≤ max_ranges
     → length (range_lines (take a.reader.reader_state.len a.reader.reader_state.ranges)) ≤ 2112
 ranges_length a h =
     let l = take a.reader.reader_state.len a.reader.reader_state.ranges in
@@ -76,7 +76,7 @@ read_line : length (line (do_name 3) (0 ∷ [])) ≡ 7
 unfolding line spaced decimal places do_name is_read
 read_line = refl
 
-pub a_read's_text_fits : (a : ReadIntoBuffers) (out : List ℕ) → length out ≤ 26624 → length a.reader.reader_state.ranges ≤ max_ranges → length (read_text a out) ≤ 113761
+pub a_read's_text_fits : (a : ReadAllAnswer) (out : List ℕ) → length out ≤ 26624 → length a.reader.reader_state.ranges ≤ max_ranges → length (read_text a out) ≤ 113761
 unfolding read_text do_name is_read
 a_read's_text_fits a out h k = go a.number (eqb a.number 0) refl
   where

@@ -1,12 +1,10 @@
 -- What a record of a session says (document 01, "Session program"), where it does not reach the reader: its text,
 -- and the state and the lent bytes that it leaves.
-use Rattle.std.specs.Prelude.{ℕ, ◌+◌, ◌*◌, ◌/◌, Bool, true, false, ◌&&◌, ◌||◌, List, [], ◌∷◌, ltb, leb, eqb, length, take, drop, get_or}
+use Rattle.std.specs.Prelude.{ℕ, ◌+◌, ◌*◌, ◌/◌, Bool, true, false, ◌&&◌, ◌||◌, List, [], ◌∷◌, ltb, leb, eqb, length, take, drop, get_or, Option, Some, None}
 use Rattle.rows.specs.Rows.{pick, num_at, written, whole_rows, find_row}
-use Rattle.rows.specs.declared.Found.{Found}
-use Rattle.rows.specs.declared.Found.TheVariants as row
 use Rattle.messages_buffer.specs.Fullness.{first_no}
 use Rattle.anchors_cache.specs.declared.AnchorsCacheTransaction.{AnchorsCacheTransaction}
-use Rattle.anchors_cache.specs.declared.Done.{Done}
+use Rattle.anchors_cache.specs.Answers.{Done}
 use Rattle.cache_rules.specs.Rules.{Row}
 use Rattle.anchors_cache.specs.Windows.{added_tables, added_area}
 use Rattle.anchors_cache.specs.Calls.{on_zero, refusal, row_for, add_number, add_call, pop_call, open_call, commit_call, rollback_call, close_call, closed_transaction}
@@ -70,9 +68,9 @@ unfoldable pub malformed_said : Session → Said
 malformed_said s = pick s.stopped (nothing_said s) (bad_said (record_counted s) 17)
 
 -- ---- 0002
-abbrev pub is_nothing : Found → Bool
-is_nothing (row.At i) = false
-is_nothing row.Nothing = true
+abbrev pub is_nothing : Option ℕ → Bool
+is_nothing (Some i) = false
+is_nothing None = true
 
 -- question 3 of one route more: there are fewer than 256, the partition is at most 7, the address is not listed
 unfoldable pub route_number : List ℕ → List ℕ → ℕ

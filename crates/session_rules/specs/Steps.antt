@@ -1,18 +1,17 @@
 -- A session as document 01 tells it ("Session program"): what text a record gives in which state, and what state and
 -- lent bytes it leaves.
-use Rattle.std.specs.Prelude.{ℕ, Bool, true, false, List, [], ◌∷◌, ◌++◌, leb, eqb, length, take, drop, get_or, replicate}
+use Rattle.std.specs.Prelude.{ℕ, Bool, true, false, List, [], ◌∷◌, ◌++◌, leb, eqb, length, take, drop, get_or, replicate, None}
 use Rattle.rows.specs.Rows.{pick, num_at, whole_rows}
 use Rattle.shard_ident.specs.declared.ShardIdent.{ShardIdent}
 use Rattle.shard_ident.specs.Shard.{shard_number}
 use Rattle.messages_buffer.specs.Fullness.{no_partition}
-use Rattle.range_rules.specs.declared.LastChainTime.TheVariants.{Nothing}
 use Rattle.range_rules.specs.Rules.{no_key, entry_len}
 use Rattle.reader_rules.specs.declared.ExternalsReaderState.{ExternalsReaderState}
 use Rattle.reader_rules.specs.declared.ExternalsReader.{ExternalsReader}
 use Rattle.reader_rules.specs.declared.GetNextMessageGroupMode.{GetNextMessageGroupMode}
 use Rattle.reader_rules.specs.declared.GetNextMessageGroupMode.TheVariants.{Continue, Refill}
-use Rattle.externals_reader.specs.declared.ReaderDone.{ReaderDone}
-use Rattle.externals_reader.specs.declared.ReadIntoBuffers.{ReadIntoBuffers}
+use Rattle.externals_reader.specs.Answers.{ReaderDone}
+use Rattle.externals_reader.specs.Answers.{ReadAllAnswer}
 use Rattle.reader_rules.specs.Rules.{range_from}
 use Rattle.externals_reader.specs.Calls.{handed_in, new_call, ReadAllResult, read_all_call}
 use Rattle.records.specs.Records.{shard_of, limits_in, params_of, limits_of}
@@ -45,7 +44,7 @@ no_state =
       ranges = replicate 16 (range_from 0 no_key (record { 0 = 0 }) (replicate 8 no_partition));
       len = 0;
       by_partitions = replicate 8 (record { processed_to = no_key; curr_processed_offset = 0; present = false });
-      last_read_to_anchor_chain_time = Nothing;
+      last_read_to_anchor_chain_time = None;
     }
 
 -- `new` makes the reader once, without ranges
@@ -68,7 +67,7 @@ abbrev pub mode_of : ℕ → GetNextMessageGroupMode
 mode_of d = pick (eqb d 4) Refill Continue
 
 -- after a read answering 0: `free` where a range was read, `add` for each output entry, `range` for each range
-unfoldable pub read_text : ReadIntoBuffers → List ℕ → List ℕ
+unfoldable pub read_text : ReadAllAnswer → List ℕ → List ℕ
 read_text a out =
     line (do_name 3) (a.number ∷ [])
     ++ pick (eqb a.number 0)

@@ -1,28 +1,40 @@
 -- Each record that does not reach the reader, by its cases.
-use Prim.Native.Nat.{ℕ, zero, suc, ◌+◌, ◌-◌, ◌/◌, ◌≤◌}
+use Prim.Native.Nat.{ℕ, ◌+◌, ◌-◌, ◌/◌, ◌<◌, ◌≤◌}
 use mathlib.Core.Path.{◌≡◌, refl, sym, ap, ◌∙◌}
 use mathlib.Core.Bool.{Bool, true, false, not, ◌&&◌, ◌||◌}
 use mathlib.Core.List.{List, [], ◌∷◌}
+use mathlib.Core.Logic.{◌⊎◌, inl, inr, ⊎_elim}
 use native.Mathlib.Omega.{arith}
+use denote.Ref.{Bor}
+use Rattle.std.specs.Slice.{IsGetRangeResult}
+use Rattle.std.specs.Prelude.{Option, Some, None, unwrap_or}
 use lib.Dec.{ltb, leb, eqb}
 use lib.ListN.{length, take, drop, get_or}
 use borrow.Author.Tests.{le-ltb, leb-true, ne_eqb}
 use Rattle.rows.specs.Rows.{pick, num_at, written, whole_rows, find_row}
 use Rattle.rows.proofs.Laws.{pick_yes, pick_no, told_yes, told_no}
-use Rattle.messages_buffer.specs.Fullness.{first_no}
 use Rattle.anchors_cache.specs.declared.AnchorsCacheTransaction.{AnchorsCacheTransaction}
 use Rattle.anchors_cache.specs.declared.MempoolAnchor.{MempoolAnchor}
-use Rattle.anchors_cache.specs.declared.Done.{Done}
+use Rattle.anchors_cache.specs.Answers.{Done}
 use Rattle.anchors_cache.specs.Windows.{added_tables, added_area}
 use Rattle.anchors_cache.specs.Calls.{on_zero, row_for, add_number, add_call}
-use Rattle.records.specs.Records.{record_number, anchor_in}
-use Rattle.records.proofs.Laws.{rest_all}
+use Rattle.records.specs.Records.{kind_number, record_number, anchor_in}
+use Rattle.records.specs.declared.Kind.{Kind}
+use Rattle.records.specs.declared.Kind.TheVariants as Kinds
+use Rattle.records.proofs.Laws.{rest_all, drop_all}
 use Rattle.text.specs.Shown.{show, line}
 use Rattle.lines.specs.Lines.{end_line}
 use Rattle.session_rules.specs.declared.Session.{Session}
 use Rattle.session_rules.proofs.Printed.{printed_text, bad_where_refused, after_where_not}
-use Rattle.session_rules.specs.Said.{Printed, with_transaction, with_routes_len, with_at, stop, record_counted, printed, nothing_said, bad_said, after_or_bad, malformed_said, is_nothing, route_number, placed_number, routes_with, route_said, routes_after, messages_of, ours_of, anchor_number, anchor_taken, tables_after, area_after, anchor_said, AnchorLeft, anchor_left, plain_said, plain_tables, plain_area, plain_routes, plain_left, do_name, called, cache_said, is_taken, long_number, long_said, end_said}
+use Rattle.session_rules.specs.Said.{Printed, with_transaction, with_routes_len, with_at, stop, record_counted, printed, nothing_said, bad_said, after_or_bad, malformed_said, is_nothing, route_number, placed_number, routes_with, route_said, routes_after, messages_of, ours_of, anchor_number, anchor_taken, tables_after, area_after, anchor_said, AnchorLeft, anchor_left, plain_said, plain_tables, plain_area, plain_routes, plain_left, is_read, do_name, called, cache_said, is_taken, long_number, long_said, end_said}
+use Rattle.session_state.specs.Dos.{do_byte, do_of}
+use Rattle.std.proofs.lemmas.Bool.Decides.{nat_tests}
 use Rattle.router.specs.Router.{max_routes}
+
+-- ---- a slice from a place on, or none
+pub rest_got : (l : List ℕ) (at : ℕ) (o : Option (Bor (List ℕ))) (d : Bor (List ℕ)) → d.now ≡ [] → IsGetRangeResult l at (length l) o → (unwrap_or o d).now ≡ drop at l
+rest_got l at None d e h = rw (e, drop_all l at (⊎_elim (λ (p : length l < at). omega arith) (λ (p : length l < length l). absurd (omega arith)) h.0))
+rest_got l at (Some y) d e h = h.0.2 ∙ rest_all l at
 
 -- ---- routes
 pub placed_no : (n : ℕ) (routes p : List ℕ) (b : Bool) → b ≡ leb (n + length p) (length routes) → not b ≡ true → 3 ≡ placed_number n routes p
@@ -99,6 +111,19 @@ cache_called s n tables d c bytes m r ce e =
     printed_text (with_transaction s c.state) (line (do_name d) (c.number ∷ [])) bytes m r e
     ∙ ap (λ (x : Done). printed (record { session = with_transaction s x.state; text = line (do_name d) (x.number ∷ []) }) bytes) ce
 
+-- ---- what a byte asks for
+called_of : (n : ℕ) (tables : List ℕ) (t : AnchorsCacheTransaction) (d : ℕ) → called n tables t (do_byte (do_of d)) ≡ called n tables t d
+unfolding called do_of
+called_of n tables t d = grind (arith, nat_tests)
+
+name_of : (d : ℕ) → do_name (do_byte (do_of d)) ≡ do_name d
+unfolding do_name do_of is_read
+name_of d = grind (arith, nat_tests)
+
+pub said_of : (s : Session) (n : ℕ) (tables : List ℕ) (d : ℕ) → cache_said s n tables (do_byte (do_of d)) ≡ cache_said s n tables d
+unfolding cache_said
+said_of s n tables d = rw (called_of n tables s.transaction d, name_of d)
+
 -- ---- a record that does not reach the reader
 module _ (s : Session) (tables area routes text : List ℕ) (kind : ℕ) (p : List ℕ) where
   pub as_anchor : (x : AnchorLeft) → kind ≡ 4 → x ≡ anchor_left s tables area text p
@@ -112,22 +137,22 @@ module _ (s : Session) (tables area routes text : List ℕ) (kind : ℕ) (p : Li
     unfolding plain_said plain_tables plain_area plain_routes
     as_route routes' k e f = rw (k, e, f)
 
-    pub as_call : (d : ℕ) → (kind ≡ 2 → ⊥) → d ≡ get_or p 0 0 → t ≡ printed (cache_said s (length area) tables d) text
+    pub as_call : (d : ℕ) → (kind ≡ 2 → ⊥) → d ≡ get_or p 0 0 → t ≡ printed (cache_said s (length area) tables (do_byte (do_of d))) text
         → record { session = t.session; tables = tables; area = area; routes = routes; text = t.bytes } ≡ plain_left s tables area routes text kind p
     unfolding plain_said plain_tables plain_area plain_routes
-    as_call d k de e = rw (ne_eqb kind 4 not-anchor, ne_eqb kind 2 k, ← de, e)
+    as_call d k de e = rw (ne_eqb kind 4 not-anchor, ne_eqb kind 2 k, ← de, e, said_of s (length area) tables d)
+
+-- the kinds that reach no anchor and no route
+pub calls_kind : (kind : Kind) → (kind ≡ Kinds.Do) ⊎ ((kind ≡ Kinds.Shard) ⊎ (kind ≡ Kinds.Settings)) → (kind_number kind ≡ 4 → ⊥) × (kind_number kind ≡ 2 → ⊥)
+calls_kind kind (inl e) = rw e ((λ z. omega arith), (λ z. omega arith))
+calls_kind kind (inr (inl e)) = rw e ((λ z. omega arith), (λ z. omega arith))
+calls_kind kind (inr (inr e)) = rw e ((λ z. omega arith), (λ z. omega arith))
 
 -- ---- question 17 of a record
 pub taken_as : (s next : Session) (r : List ℕ) (kind number : ℕ) → s.stopped ≡ false → 2 ≤ length r → next ≡ record_counted s → kind ≡ num_at 2 0 r
     → number ≡ record_number next.records kind (take (length r - 2) (drop 2 r)) → eqb number 0 ≡ is_taken s r
 unfolding is_taken
 taken_as s next r kind number h k ne ke e = rw (e, ke, rest_all r 2, ap (λ (x : Session). x.records) ne, h, le-ltb (length r) 2 k)
-
--- ---- the first "no"
-pub first_no_lem : (n : ℕ) (l : List ℕ) → (n ≡ 0 → ⊥) → n ≡ first_no (n ∷ l)
-unfolding first_no
-first_no_lem zero l h = absurd (h refl)
-first_no_lem (suc n) l h = refl
 
 -- ---- a record that is too long, and the end
 pub long_refused : (len : ℕ) (tables : List ℕ) (s next : Session) (head : List ℕ) (n number : ℕ) → s.stopped ≡ false → next ≡ record_counted s

@@ -1,84 +1,125 @@
 // The calls of the cache, and their lines.
 ghost use Rattle.std.specs.Prelude.{◌≡◌, [], ◌∷◌, ◌+◌, ◌*◌, length};
 ghost use Rattle.text.specs.Shown.{show, line};
+ghost use Rattle.refusals.specs.Refusals.{number_of};
+ghost use Rattle.anchors_cache.specs.Answers.{done_of};
 ghost use Rattle.session_rules.specs.Said.{anchor_taken, tables_after, area_after, pop_done, do_name, long_number};
 ghost use Rattle.session_rules.specs.Said.{called as spec_called, is_read as spec_is_read};
+ghost use Rattle.session_state.specs.Dos.{do_byte, do_of};
 
-use anchors_cache::{AnchorsCacheTransaction, Done};
+use anchors_cache::AnchorsCacheTransaction;
+use records::Kind;
+use refusals::Refusal;
 
-const OPEN: [u8; 4] = *b"open";
+// What a do record asks for; the reads are those of all ranges, in one of the two modes.
+#[derive(Clone, Copy, Debug, PartialEq, Eq)]
+pub enum Do {
+    Open = 1,
+    Pop = 2,
+    ReadContinue = 3,
+    ReadRefill = 4,
+    Commit = 5,
+    Rollback = 6,
+    Close = 7,
+}
 
-const POP: [u8; 3] = *b"pop";
+// By its byte; one that is none of these closes.
+impl From<u8> for Do {
+    ghost from_gives = { λ d call. call ≡ do_of d };
 
-const READ: [u8; 4] = *b"read";
-
-const COMMIT: [u8; 6] = *b"commit";
-
-const ROLLBACK: [u8; 8] = *b"rollback";
-
-const CLOSE: [u8; 5] = *b"close";
-
-// 3 read `Continue`, 4 read `Refill`.
-pub fn is_read(d: u8) -> bool
-    ensures { result ≡ spec_is_read d }
-{
-    if d == 3 {
-        return true;
+    #[tactic(auto, unfolding(crate::specs::Dos::do_of))]
+    fn from(byte: u8) -> Do {
+        match byte {
+            1 => Do::Open,
+            2 => Do::Pop,
+            3 => Do::ReadContinue,
+            4 => Do::ReadRefill,
+            5 => Do::Commit,
+            6 => Do::Rollback,
+            _ => Do::Close,
+        }
     }
-    d == 4
+}
+
+impl Do {
+    #[tactic(auto, unfolding(session_rules::specs::Said::is_read))]
+    pub fn is_read(self) -> bool
+        ensures { result ≡ spec_is_read (do_byte self) }
+    {
+        matches!(self, Do::ReadContinue | Do::ReadRefill)
+    }
+
+    // As its line has it.
+    #[tactic(auto, unfolding(session_rules::specs::Said::do_name, session_rules::specs::Said::is_read))]
+    fn name(self) -> &'static [u8]
+        ensures { result.now ≡ do_name (do_byte self) }
+    {
+        match self {
+            Do::ReadContinue | Do::ReadRefill => b"read",
+            Do::Open => b"open",
+            Do::Pop => b"pop",
+            Do::Commit => b"commit",
+            Do::Rollback => b"rollback",
+            Do::Close => b"close",
+        }
+    }
+
+    // The call's name and its number.
+    pub fn put(self, text: &mut [u8], at: usize, number: u8) -> usize
+        ensures { record { at = result; bytes = text.new } ≡ show (line (do_name (do_byte self)) (number ∷ [])) (record { at = at; bytes = text.old }) }
+    {
+        text::put_call(text, at, self.name(), number)
+    }
 }
 
 // An anchor's payload: the first 50 bytes, ours 4 at 44, then the messages.
-pub fn add(tables: &mut [u8], area: &mut [u8], t: AnchorsCacheTransaction, p: &[u8]) -> Done
-    ensures { (result ≡ anchor_taken (length area.old) tables.old t p.now)
+pub fn add(
+    tables: &mut [u8],
+    area: &mut [u8],
+    t: AnchorsCacheTransaction,
+    p: &[u8],
+) -> Result<AnchorsCacheTransaction, Refusal>
+    ensures { (done_of t result ≡ anchor_taken (length area.old) tables.old t p.now)
         × (tables.new ≡ tables_after (length area.old) tables.old t p.now)
         × (area.new ≡ area_after area.old tables.old t p.now) }
 {
-    let a = records::anchor_of(p);
-    let ours = rows::u32_at(p, 44);
-    if p.len() < 50 {
-        return anchors_cache::add(tables, area, t, a, ours, b"");
-    }
-    anchors_cache::add(tables, area, t, a, ours, &p[50..])
+    let messages = p.get(50..).unwrap_or(&[]);
+    anchors_cache::add(
+        tables,
+        area,
+        t,
+        records::anchor_of(p),
+        rows::num_at(p, 44),
+        messages,
+    )
 }
 
-fn pop(tables: &[u8], area: &[u8], t: AnchorsCacheTransaction) -> Done
-    ensures { result ≡ pop_done (length area.now) tables.now t }
+fn pop(
+    tables: &[u8],
+    area: &[u8],
+    t: AnchorsCacheTransaction,
+) -> Result<AnchorsCacheTransaction, Refusal>
+    ensures { done_of t result ≡ pop_done (length area.now) tables.now t }
 {
-    let popped = anchors_cache::pop_front(tables, area, t);
-    let state = popped.state;
-    Done {
-        number: popped.number,
-        state: state,
-    }
+    Ok(anchors_cache::pop_front(tables, area, t)?.state)
 }
 
-// 1 open, 2 pop, 5 commit, 6 rollback, 7 close.
-pub fn called(tables: &[u8], area: &[u8], t: AnchorsCacheTransaction, d: u8) -> Done
-    ensures { result ≡ spec_called (length area.now) tables.now t d }
+// A call of the cache; one that is none closes.
+#[tactic(auto, unfolding(session_rules::specs::Said::called))]
+pub fn called(
+    tables: &[u8],
+    area: &[u8],
+    t: AnchorsCacheTransaction,
+    call: Do,
+) -> Result<AnchorsCacheTransaction, Refusal>
+    ensures { done_of t result ≡ spec_called (length area.now) tables.now t (do_byte call) }
 {
-    match d {
-        1 => anchors_cache::open(tables, area, t),
-        2 => pop(tables, area, t),
-        5 => anchors_cache::commit(tables, area, t),
-        6 => anchors_cache::rollback(tables, area, t),
-        _ => anchors_cache::close(tables, area, t),
-    }
-}
-
-// The call's name and its number.
-pub fn put_called(text: &mut [u8], at: usize, d: u8, number: u8) -> usize
-    ensures { record { at = result; bytes = text.new } ≡ show (line (do_name d) (number ∷ [])) (record { at = at; bytes = text.old }) }
-{
-    if is_read(d) {
-        return text::put_call(text, at, &READ, number);
-    }
-    match d {
-        1 => text::put_call(text, at, &OPEN, number),
-        2 => text::put_call(text, at, &POP, number),
-        5 => text::put_call(text, at, &COMMIT, number),
-        6 => text::put_call(text, at, &ROLLBACK, number),
-        _ => text::put_call(text, at, &CLOSE, number),
+    match call {
+        Do::Open => anchors_cache::open(tables, area, t),
+        Do::Pop => pop(tables, area, t),
+        Do::Commit => anchors_cache::commit(tables, area, t),
+        Do::Rollback => anchors_cache::rollback(tables, area, t),
+        Do::Close | Do::ReadContinue | Do::ReadRefill => anchors_cache::close(tables, area, t),
     }
 }
 
@@ -86,32 +127,30 @@ pub fn put_called(text: &mut [u8], at: usize, d: u8, number: u8) -> usize
 fn anchor_len(count: u16) -> usize
     ensures { result ≡ 52 + 33 * count }
 {
-    52 + 33 * count as usize
+    52 + 33 * usize::from(count)
 }
 
-// 17 unless it is an anchor of its stated length; else questions 1 and 5, then 6: too many messages.
-pub fn long_number(
+// Why a record is refused that is too long: malformed unless it is an anchor of its stated length; else by questions 1
+// and 5, then for too many messages.
+#[tactic(auto, using(messages_buffer::proofs::Laws::first_yes, messages_buffer::proofs::Laws::first_no_lem, refusals::proofs::Laws::refused_is_not_done, std::proofs::lemmas::Bool::Decides::nat_tests), unfolding(session_rules::specs::Said::long_number))]
+pub fn long_refusal(
     tables: &[u8],
     area: &[u8],
     number: u64,
     t: AnchorsCacheTransaction,
     head: &[u8],
     n: usize,
-) -> u8
-    ensures { result ≡ long_number (length area.now) tables.now number t head.now n }
+) -> Refusal
+    ensures { number_of result ≡ long_number (length area.now) tables.now number t head.now n }
 {
-    if number < 3 {
-        return 17;
+    if number < 3
+        || rows::num_at::<u16>(head, 0) != u16::from(Kind::Anchor)
+        || n != anchor_len(rows::num_at(head, 50))
+    {
+        return Refusal::Malformed;
     }
-    if rows::u16_at(head, 0) != records::ANCHOR {
-        return 17;
+    match anchors_cache::check_cache(tables, area, t) {
+        Ok(()) => Refusal::MessagesUnsound,
+        Err(refusal) => refusal,
     }
-    if n != anchor_len(rows::u16_at(head, 50)) {
-        return 17;
-    }
-    let asked = anchors_cache::check_cache(tables, area, t);
-    if asked != 0 {
-        return asked;
-    }
-    6
 }

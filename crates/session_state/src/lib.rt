@@ -3,49 +3,62 @@
 #![tactic(auto)]
 
 ghost use Rattle.std.specs.Prelude.{◌≡◌, length};
-ghost use Rattle.session_rules.specs.Said.{new_session, record_counted, printed, with_transaction, bad_said, after_or_bad, malformed_said, route_said, routes_after, anchor_left, cache_said, plain_left, is_taken, long_said, end_said};
+ghost use Rattle.refusals.specs.Refusals.{number_of};
+ghost use Rattle.records.specs.Records.{kind_number};
+ghost use Rattle.session_rules.specs.Said.{with_at, stop, new_session, record_counted, printed, bad_said, malformed_said, route_said, routes_after, anchor_left, cache_said, plain_left, is_taken, long_said, end_said};
+ghost use Rattle.session_state.specs.Dos.{do_byte};
 
-use anchors_cache::AnchorsCacheTransaction;
+use records::Kind;
+use refusals::Refusal;
 use session_rules::Session;
 
 mod calls;
 mod routes;
 
-pub use calls::{is_read, put_called};
+pub use calls::Do;
 
 // Before the first record.
+#[tactic(auto, unfolding(session_rules::specs::Said::new_session))]
 pub fn new() -> Session
     ensures { result ≡ new_session }
 {
-    let transaction = anchors_cache::new();
     Session {
         records: 0,
         stopped: false,
         at: 0,
         routes_len: 0,
-        transaction: transaction,
+        transaction: anchors_cache::new(),
     }
 }
 
 // One record more; the count stays at the greatest number.
+#[tactic(auto, using(std::proofs::lemmas::Bool::Decides::nat_tests), unfolding(session_rules::specs::Said::record_counted))]
 pub fn record_counted(session: Session) -> Session
     ensures { result ≡ record_counted session }
 {
-    let mut s = session;
-    if session.records < u64::MAX {
-        s.records = session.records + 1;
+    Session {
+        records: session.records.saturating_add(1),
+        ..session
     }
-    s
+}
+
+// With the place behind its last text; nothing follows it.
+fn stopped(session: Session, at: usize) -> Session
+    ensures { result ≡ with_at (stop session) at }
+{
+    Session {
+        stopped: true,
+        at,
+        ..session
+    }
 }
 
 // A refused record: `bad`, its number, the refusal; nothing follows.
-pub fn bad(text: &mut [u8], session: Session, number: u8) -> Session
-    ensures { record { session = result; bytes = text.new } ≡ printed (bad_said session number) text.old }
+pub fn bad(text: &mut [u8], session: Session, refusal: Refusal) -> Session
+    ensures { record { session = result; bytes = text.new } ≡ printed (bad_said session (number_of refusal)) text.old }
 {
-    let mut s = session;
-    s.stopped = true;
-    s.at = lines::put_bad(text, session.at, session.records, number);
-    s
+    let at = lines::put_bad(text, session.at, session.records, u8::from(refusal));
+    stopped(session, at)
 }
 
 // Refused by 17, unless the session has stopped.
@@ -55,25 +68,7 @@ pub fn malformed(text: &mut [u8], session: Session) -> Session
     if session.stopped {
         return session;
     }
-    bad(text, record_counted(session), 17)
-}
-
-// A record that says nothing, or is refused and leaves the session as it was.
-fn after_or_bad(text: &mut [u8], before: Session, after: Session, number: u8) -> Session
-    ensures { record { session = result; bytes = text.new } ≡ printed (after_or_bad before after number) text.old }
-{
-    if number != 0 {
-        return bad(text, before, number);
-    }
-    after
-}
-
-fn with_transaction(session: Session, transaction: AnchorsCacheTransaction) -> Session
-    ensures { result ≡ with_transaction session transaction }
-{
-    let mut s = session;
-    s.transaction = transaction;
-    s
+    bad(text, record_counted(session), Refusal::Malformed)
 }
 
 // A route, behind those that are listed.
@@ -81,13 +76,13 @@ fn route(routes: &mut [u8], text: &mut [u8], session: Session, p: &[u8]) -> Sess
     ensures { (record { session = result; bytes = text.new } ≡ printed (route_said session routes.old p.now) text.old)
         × (routes.new ≡ routes_after session routes.old p.now) }
 {
-    let number = routes::listed(routes, session.routes_len, p);
-    if number != 0 {
-        return bad(text, session, number);
+    match routes::listed(routes, session.routes_len, p) {
+        Ok(()) => Session {
+            routes_len: session.routes_len + router::ROUTE_LEN,
+            ..session
+        },
+        Err(refusal) => bad(text, session, refusal),
     }
-    let mut s = session;
-    s.routes_len = session.routes_len + router::ROUTE_LEN;
-    s
 }
 
 // An anchor: `add`.
@@ -101,41 +96,42 @@ fn anchor(
     ensures { record { session = result; tables = tables.new; area = area.new; text = text.new }
         ≡ anchor_left session tables.old area.old text.old p.now }
 {
-    let done = calls::add(tables, area, session.transaction, p);
-    let transaction = done.state;
-    after_or_bad(
-        text,
-        session,
-        with_transaction(session, transaction),
-        done.number,
-    )
+    match calls::add(tables, area, session.transaction, p) {
+        Ok(transaction) => Session {
+            transaction,
+            ..session
+        },
+        Err(refusal) => bad(text, session, refusal),
+    }
 }
 
 // A call of the cache: its line, and the transaction that it left.
-fn cache_call(tables: &[u8], area: &[u8], text: &mut [u8], session: Session, d: u8) -> Session
-    ensures { record { session = result; bytes = text.new } ≡ printed (cache_said session (length area.now) tables.now d) text.old }
+fn cache_call(tables: &[u8], area: &[u8], text: &mut [u8], session: Session, call: Do) -> Session
+    ensures { record { session = result; bytes = text.new } ≡ printed (cache_said session (length area.now) tables.now (do_byte call)) text.old }
 {
-    let done = calls::called(tables, area, session.transaction, d);
-    let transaction = done.state;
-    let mut s = session;
-    s.transaction = transaction;
-    s.at = calls::put_called(text, session.at, d, done.number);
-    s
+    match calls::called(tables, area, session.transaction, call) {
+        Ok(transaction) => Session {
+            at: call.put(text, session.at, 0),
+            transaction,
+            ..session
+        },
+        Err(refusal) => Session {
+            at: call.put(text, session.at, u8::from(refusal)),
+            ..session
+        },
+    }
 }
 
 // A record that is as stated, of a session that goes on.
+#[tactic(auto, using(std::proofs::lemmas::Bool::Decides::nat_tests), unfolding(session_rules::specs::Said::is_taken))]
 pub fn is_taken(session: Session, record: &[u8]) -> bool
     ensures { result ≡ is_taken session «record».now }
 {
-    if session.stopped {
+    if session.stopped || record.len() < 2 {
         return false;
     }
-    if record.len() < 2 {
-        return false;
-    }
-    let next = record_counted(session);
-    let kind = rows::u16_at(record, 0);
-    records::check_record(next.records, kind, &record[2..]) == 0
+    let number = record_counted(session).records;
+    records::check_record(number, rows::num_at(record, 0), &record[2..]).is_ok()
 }
 
 // A record that is taken and does not reach the reader.
@@ -145,19 +141,19 @@ pub fn plain(
     routes: &mut [u8],
     text: &mut [u8],
     session: Session,
-    kind: u16,
+    kind: Kind,
     p: &[u8],
 ) -> Session
     ensures { record { session = result; tables = tables.new; area = area.new; routes = routes.new; text = text.new }
-        ≡ plain_left session tables.old area.old routes.old text.old kind p.now }
+        ≡ plain_left session tables.old area.old routes.old text.old (kind_number kind) p.now }
 {
-    if kind == records::ANCHOR {
-        return anchor(tables, area, text, session, p);
+    match kind {
+        Kind::Anchor => anchor(tables, area, text, session, p),
+        Kind::Route => route(routes, text, session, p),
+        Kind::Do | Kind::Shard | Kind::Settings => {
+            cache_call(tables, area, text, session, Do::from(rows::byte_at(p, 0)))
+        }
     }
-    if kind == records::ROUTE {
-        return route(routes, text, session, p);
-    }
-    cache_call(&*tables, &*area, text, session, rows::byte_at(p, 0))
 }
 
 // A record of n bytes, more than `records::LONGEST`, by its first 52: it is never taken.
@@ -175,8 +171,8 @@ pub fn long_record(
         return session;
     }
     let next = record_counted(session);
-    let number = calls::long_number(tables, area, next.records, next.transaction, head, n);
-    bad(text, next, number)
+    let refusal = calls::long_refusal(tables, area, next.records, next.transaction, head, n);
+    bad(text, next, refusal)
 }
 
 // The input's end. One inside a record, or before the settings, is one malformed record.
@@ -189,10 +185,6 @@ pub fn end(text: &mut [u8], session: Session, cut: bool) -> Session
     if session.stopped {
         return session;
     }
-    let t = session.transaction;
-    let cache = t.cache;
-    let mut ended = session;
-    ended.stopped = true;
-    ended.at = lines::put_end(text, session.at, cache);
-    ended
+    let at = lines::put_end(text, session.at, session.transaction.cache);
+    stopped(session, at)
 }

@@ -5,23 +5,27 @@ use mathlib.Core.Bool.{Bool, true, false, not, ◌&&◌}
 use mathlib.Core.List.{List}
 use mathlib.Core.Logic.{⊎_elim}
 use native.Mathlib.Omega.{arith}
-use native.Mathlib.Nat.{pow-zero, pow-suc, eq-or-lt_of_le, add_comm}
+use native.Mathlib.Nat.{pow-zero, pow-suc, eq-or-lt_of_le}
 use native.Mathlib.Numerals.{add-one}
 use lib.Dec.{eqb, leb}
+use Rattle.std.specs.Prelude.{Result, Ok, Err}
+use Rattle.std.specs.Result.{IsErr, IsErrAnd}
+use Rattle.refusals.specs.declared.Refusal.{Refusal}
+use Rattle.refusals.specs.Refusals.{number_of}
+use Rattle.refusals.proofs.Laws.{refused_is_not_done, handed_on}
 use lib.ListN.{length, get_or}
-use lib.Pow.{shr-shr, shr_lt, shl_lt, shl_exact, split}
-use lib.Bits.{bit_or, or_shifted}
+use lib.Pow.{shr-shr, shr_lt}
 use lib.Count.{count_trailing_zeros, under}
 use borrow.Author.Tests.{eq-eqb, ne_eqb, eqb-true, eqb-false, le-leb, lt-leb, not-true}
 use Rattle.rows.specs.Rows.{pick, part}
 use Rattle.rows.proofs.Laws.{part_cons, and_true, yes_later, no_later}
 use Rattle.shard_ident.specs.declared.ShardIdent.{ShardIdent}
-use Rattle.shard_ident.specs.declared.Membership.TheVariants.{Refused, Ours, NotOurs}
+use Rattle.refusals.specs.declared.Refusal.TheVariants.{NotAShard}
 use Rattle.shard_ident.specs.Shard.{bit, lowest_set, tag, splits_masterchain, is_shard, shard_number, same_bits, same_above_tag, same_workchain, in_shard, big_endian, is_ours, answer_of, after_question}
 
 -- ---- bits
 -- one shift more
-half : (n i : ℕ) → n / 2 ^ i / 2 ≡ n / 2 ^ suc i
+pub half : (n i : ℕ) → n / 2 ^ i / 2 ≡ n / 2 ^ suc i
 half n i = shr-shr n i 1 ∙ ap (λ (j : ℕ). n / 2 ^ j) (add-one i)
 
 whole : (n : ℕ) → n / 2 ^ 0 ≡ n
@@ -155,19 +159,23 @@ pub question_no : (s : ShardIdent) (r : ℕ) → r ≡ shard_number s → (r ≡
 question_no s r e n = (number_tells (is_shard s)).1 (λ z. n (e ∙ z))
 
 -- what each answer says
-pub refused : (s : ShardIdent) (ours : Bool) → is_shard s ≡ false → answer_of Refused ≡ after_question s ours
+pub refused : (s : ShardIdent) (ours : Bool) → is_shard s ≡ false → answer_of (Err NotAShard) ≡ after_question s ours
 unfolding after_question
 refused s ours e = rw e
+
+-- what `check_shard` answered is handed on
+pub refused_on : (q : Result Bool Refusal) (r : Refusal) (s : ShardIdent) (ours : Bool) → IsErr q × IsErrAnd q (λ x. x ≡ r) → number_of r ≡ shard_number s → answer_of q ≡ after_question s ours
+unfolding after_question
+refused_on q r s ours h e =
+    let no = question_no s (number_of r) e (refused_is_not_done r) in
+    ap answer_of (handed_on q r h) ∙ rw (e, no)
 
 pub accepted : (s : ShardIdent) (ours : Bool) → is_shard s ≡ true → after_question s ours ≡ record { number = 0; ours = ours }
 unfolding after_question
 accepted s ours e = rw e
 
-pub member : (s : ShardIdent) (ours : Bool) → is_shard s ≡ true → ours ≡ true → answer_of Ours ≡ after_question s ours
-member s ours e h = sym (accepted s ours e ∙ rw h)
-
-pub no_member : (s : ShardIdent) (ours : Bool) → is_shard s ≡ true → ours ≡ false → answer_of NotOurs ≡ after_question s ours
-no_member s ours e h = sym (accepted s ours e ∙ rw h)
+pub answered : (s : ShardIdent) (told ours : Bool) → is_shard s ≡ true → ours ≡ told → answer_of (Ok told) ≡ after_question s ours
+answered s told ours e h = sym (accepted s ours e ∙ rw h)
 
 -- a message by its parts
 pub short_message : (s : ShardIdent) (m : List ℕ) → length m < 33 → is_ours s m ≡ false
@@ -179,32 +187,6 @@ unfolding is_ours
 message_ours s m account b h e f = rw (le-leb 33 (length m) h, sym e) (sym f)
 
 -- ---- the first word of an account
--- an or with what stands below the lowest set bit is a sum
-or_below : (k x y : ℕ) → x % 2 ^ k ≡ 0 → y < 2 ^ k → bit_or x y ≡ x + y
-or_below k x y e h =
-    let s : x / 2 ^ k * 2 ^ k ≡ x = omega (arith, split x k) in
-    ap (λ (n : ℕ). bit_or n y) (sym s) ∙ (or_shifted (x / 2 ^ k) k y h ∙ ap (λ (n : ℕ). n + y) s)
-
--- one byte more, at bit k
-or_byte : (k x b : ℕ) → x % 2 ^ (k + 8) ≡ 0 → b < 256 → k + 8 ≤ 64 → bit_or x (b * 2 ^ k % 2 ^ 64) ≡ x + b * 2 ^ k
-or_byte k x b e h g = rw (shl_exact 8 k 64 h (omega arith)) (or_below (k + 8) x (b * 2 ^ k) e (rw (add_comm k 8) (shl_lt 8 k h)))
-
-pub or_eight : (a b c d e f g h : ℕ) → a < 256 → b < 256 → c < 256 → d < 256 → e < 256 → f < 256 → g < 256 → h < 256
-    → bit_or (bit_or (bit_or (bit_or (bit_or (bit_or (bit_or (a * 2 ^ 56 % 2 ^ 64) (b * 2 ^ 48 % 2 ^ 64)) (c * 2 ^ 40 % 2 ^ 64)) (d * 2 ^ 32 % 2 ^ 64)) (e * 2 ^ 24 % 2 ^ 64)) (f * 2 ^ 16 % 2 ^ 64)) (g * 2 ^ 8 % 2 ^ 64)) h
-    ≡ a * 2 ^ 56 + b * 2 ^ 48 + c * 2 ^ 40 + d * 2 ^ 32 + e * 2 ^ 24 + f * 2 ^ 16 + g * 2 ^ 8 + h
-or_eight a b c d e f g h p q r s t u v w =
-    let first : a * 2 ^ 56 % 2 ^ 64 ≡ a * 2 ^ 56 = omega arith in
-    rw (
-      first,
-      or_byte 48 (a * 2 ^ 56) b (omega arith) q (omega arith),
-      or_byte 40 (a * 2 ^ 56 + b * 2 ^ 48) c (omega arith) r (omega arith),
-      or_byte 32 (a * 2 ^ 56 + b * 2 ^ 48 + c * 2 ^ 40) d (omega arith) s (omega arith),
-      or_byte 24 (a * 2 ^ 56 + b * 2 ^ 48 + c * 2 ^ 40 + d * 2 ^ 32) e (omega arith) t (omega arith),
-      or_byte 16 (a * 2 ^ 56 + b * 2 ^ 48 + c * 2 ^ 40 + d * 2 ^ 32 + e * 2 ^ 24) f (omega arith) u (omega arith),
-      or_byte 8 (a * 2 ^ 56 + b * 2 ^ 48 + c * 2 ^ 40 + d * 2 ^ 32 + e * 2 ^ 24 + f * 2 ^ 16) g (omega arith) v (omega arith),
-      or_below 8 (a * 2 ^ 56 + b * 2 ^ 48 + c * 2 ^ 40 + d * 2 ^ 32 + e * 2 ^ 24 + f * 2 ^ 16 + g * 2 ^ 8) h (omega arith) w,
-    )
-
 pub be_eight : (m : List ℕ) → 33 ≤ length m → big_endian (part 1 8 m)
     ≡ get_or m 1 0 * 2 ^ 56 + get_or m 2 0 * 2 ^ 48 + get_or m 3 0 * 2 ^ 40 + get_or m 4 0 * 2 ^ 32 + get_or m 5 0 * 2 ^ 24 + get_or m 6 0 * 2 ^ 16 + get_or m 7 0 * 2 ^ 8 + get_or m 8 0
 unfolding big_endian

@@ -6,13 +6,14 @@ use mathlib.Core.Bool.{Bool, true, false, not, ◌&&◌}
 use mathlib.Core.List.{List}
 use native.Mathlib.Omega.{arith}
 use lib.Dec.{eqb, leb}
+use Rattle.std.specs.Prelude.{Err}
 use lib.IntN.{negsuc}
 use lib.ListN.{length, get_or}
 use borrow.Author.Tests.{ne_eqb, eqb-true, eqb-false}
 use Rattle.rows.specs.Rows.{part}
 use Rattle.rows.proofs.Laws.{pick_no, no_here, yes_here, yes_later}
 use Rattle.shard_ident.specs.declared.ShardIdent.{ShardIdent}
-use Rattle.shard_ident.specs.declared.Membership.TheVariants.{Refused}
+use Rattle.refusals.specs.declared.Refusal.TheVariants.{NotAShard}
 use Rattle.shard_ident.specs.Shard.{lowest_set, tag, equalℤ, splits_masterchain, is_shard, shard_number, same_workchain, big_endian, answer_of, contains_address, contains_message}
 use Rattle.shard_ident.proofs.Signed.{equal_differ, same_signed}
 use Rattle.shard_ident.proofs.Laws.{split_masterchain, refused, accepted, message_ours, prefix_8000000000000000_takes_the_whole_workchain}
@@ -39,7 +40,7 @@ module _ (s : ShardIdent) (masterchain : s.workchain ≡ negsuc 0) where
       go false e = splits (eqb-false s.prefix (2 ^ 63) e)
 
   pub a_part_of_the_masterchain_is_refused_by_2 : (s.prefix ≡ 2 ^ 63 → ⊥)
-      → (shard_number s ≡ 2) × ((workchain account : ℕ) → contains_address s workchain account ≡ answer_of Refused) × ((m : List ℕ) → contains_message s m ≡ answer_of Refused)
+      → (shard_number s ≡ 2) × ((workchain account : ℕ) → contains_address s workchain account ≡ answer_of (Err NotAShard)) × ((m : List ℕ) → contains_message s m ≡ answer_of (Err NotAShard))
   a_part_of_the_masterchain_is_refused_by_2 h =
       let no = splits h in
       (pick_no _ _ _ no, λ workchain account. sym (refused s _ no), λ m. sym (refused s _ no))

@@ -4,11 +4,10 @@ use mathlib.Core.Path.{◌≡◌, refl, ap}
 use mathlib.Core.Bool.{Bool, true, false}
 use native.Mathlib.Omega.{arith}
 use lib.Dec.{eqb, ltb}
-use lib.IntN.{ℤ, pos, negsuc, ◌-ℤ◌}
-use mir.Syntax.{w32}
-use mir.Val.{SFits, of_z, to_z}
-use mir.ValLaws.{to_z_pos}
-use borrow.Author.Tests.{eq-eqb, ne_eqb, eqb-true, eqb-false, ltb-true, ltb-false, lt-ltb}
+use lib.IntN.{ℤ, pos, negsuc}
+use mir.Syntax.{w8, w32}
+use mir.Val.{SFits, of_z, to_z, sel}
+use borrow.Author.Tests.{eq-eqb, ne_eqb, eqb-true, eqb-false, ltb-true, ltb-false}
 use Rattle.rows.specs.Rows.{pick}
 use Rattle.shard_ident.specs.Shard.{signed_byte, equalℤ}
 
@@ -51,7 +50,18 @@ pub same_neg : (k : ℕ) (z : ℤ) → k < 128 → SFits w32 z → eqb (of_z w32
 same_neg k (pos n) h f = ne_eqb (2 ^ 32 - suc k) n (λ e. omega (arith, f.sfits))
 same_neg k (negsuc n) h f = both k n h f.sfits
 
-pub lowered : (b : ℕ) → b < 256 → to_z w32 b -ℤ pos 256 ≡ negsuc (255 - b)
-lowered b h =
-    let e : 256 - suc b ≡ 255 - b = omega arith in
-    rw (to_z_pos w32 b (omega arith), lt-ltb b 256 h, e)
+-- a byte taken as `i8`
+pub taken_signed : (b : ℕ) → b < 256 → to_z w8 b ≡ signed_byte b
+taken_signed b h = let e : 256 - suc b ≡ 255 - b = omega arith in go (ltb b 128) e
+  where
+    go : (t : Bool) → 256 - suc b ≡ 255 - b → sel t (pos b) (negsuc (256 - suc b)) ≡ pick t (pos b) (negsuc (255 - b))
+    go true e = refl
+    go false e = ap negsuc e
+
+-- and compared, by the machine's bits, with 32 signed bits
+pub same_byte : (b : ℕ) (z : ℤ) → b < 256 → SFits w32 z → eqb (of_z w32 (to_z w8 b)) (of_z w32 z) ≡ equalℤ (signed_byte b) z
+same_byte b z h f = rw (taken_signed b h) (go (ltb b 128) refl)
+  where
+    go : (t : Bool) → ltb b 128 ≡ t → eqb (of_z w32 (pick t (pos b) (negsuc (255 - b)))) (of_z w32 z) ≡ equalℤ (pick t (pos b) (negsuc (255 - b))) z
+    go true e = same_pos b z (ltb-true b 128 e) f
+    go false e = let g = ltb-false b 128 e in same_neg (255 - b) z (omega arith) f

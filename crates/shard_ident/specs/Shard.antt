@@ -1,9 +1,9 @@
 -- The TON shard rule, by single bits, and question 2.
-use Rattle.std.specs.Prelude.{ℕ, zero, suc, ◌+◌, ◌-◌, ◌*◌, ◌/◌, ◌%◌, ◌^◌, Bool, true, false, not, ◌&&◌, List, [], ◌∷◌, ltb, leb, eqb, ℤ, pos, negsuc, length, get_or}
+use Rattle.std.specs.Prelude.{ℕ, zero, suc, ◌+◌, ◌-◌, ◌*◌, ◌/◌, ◌%◌, ◌^◌, Bool, true, false, not, ◌&&◌, List, [], ◌∷◌, ltb, leb, eqb, ℤ, pos, negsuc, length, get_or, Result, Ok, Err}
+use Rattle.refusals.specs.declared.Refusal.{Refusal}
+use Rattle.refusals.specs.Refusals.{number_of}
 use Rattle.rows.specs.Rows.{pick, part}
 use Rattle.shard_ident.specs.declared.ShardIdent.{ShardIdent}
-use Rattle.shard_ident.specs.declared.Membership.{Membership}
-use Rattle.shard_ident.specs.declared.Membership.TheVariants.{Refused, Ours, NotOurs}
 
 -- bit i of n, bit 0 the lowest
 abbrev pub bit : ℕ → ℕ → ℕ
@@ -75,10 +75,9 @@ pub record Answer : Type 0 where
   pub number : ℕ
   pub ours : Bool
 
-abbrev pub answer_of : Membership → Answer
-answer_of Refused = record { number = 2; ours = false }
-answer_of Ours = record { number = 0; ours = true }
-answer_of NotOurs = record { number = 0; ours = false }
+abbrev pub answer_of : Result Bool Refusal → Answer
+answer_of (Ok ours) = record { number = 0; ours = ours }
+answer_of (Err r) = record { number = number_of r; ours = false }
 
 unfoldable pub after_question : ShardIdent → Bool → Answer
 after_question s ours = record { number = shard_number s; ours = is_shard s && ours }

@@ -1,115 +1,105 @@
-// Bytes from a reader and to a writer. A call that fails is told apart from the end of the input. One that a signal
-// interrupted, or that would have had to wait, is made again; turns are counted, for a proved loop has to end.
+// Bytes from a reader and to a writer. A call that a signal interrupted, or that would have had to wait, is made again;
+// turns are counted, for a proved loop has to end.
 #![tactic(auto)]
 
-ghost use Rattle.std.specs.Prelude.{◌≡◌, ◌≤◌, ◌<◌, ◌⊎◌, ◌↔◌, IsTrue, T, length, take};
+ghost use Rattle.std.specs.Prelude.{◌≡◌, ◌≤◌, ◌<◌, ◌⊎◌, ◌↔◌, IsOk, IfErr, IfOk, OnOk, length, take};
 ghost use Rattle.std.specs.IoError.{error_kind};
 ghost use Rattle.std.specs.Io.KnownBytes.{Appends, Consumes, IsAtEnd};
-ghost use Rattle.streams.specs.Reads.{Within, Takes, AppendsFront};
+ghost use Rattle.streams.specs.Reads.{Within, Takes, AppendsFront, came};
 
-use std::io::{Error, ErrorKind, Read, Write};
-use std::thread;
+use std::error::Error;
+use std::io::{self, ErrorKind, Read, Write};
+use std::{fmt, thread};
 
-// What a read came to.
-#[derive(Clone, Copy)]
-pub enum Input {
-    Bytes(usize),
-    End,
-    Failed,
-}
-
-// How many bytes were read; and whether a read failed behind them.
-#[derive(Clone, Copy)]
-pub struct Filled {
+/// A read failed behind the first `n` bytes.
+#[derive(Clone, Copy, Debug)]
+pub struct Cut {
     pub n: usize,
-    pub failed: bool,
+    pub error: io::Error,
 }
 
-// Others run first.
-fn pause() {
-    thread::yield_now();
-}
-
-// After a call that failed: whether it is to be made again.
-fn is_passing(error: Error) -> bool
-    ensures { IsTrue result ↔ ((error_kind error ≡ ErrorKind.WouldBlock) ⊎ (error_kind error ≡ ErrorKind.Interrupted)) }
-{
-    match error.kind() {
-        ErrorKind::WouldBlock => {
-            pause();
-            true
-        }
-        ErrorKind::Interrupted => true,
-        _ => false,
+impl fmt::Display for Cut {
+    fn fmt<W: fmt::Write>(&self, f: &mut fmt::Formatter<W>) -> fmt::Result {
+        write!(f, "after {} bytes: {}", self.n, self.error)
     }
 }
 
-// One read, for which a byte at least is lent.
-pub fn read<R: Read>(input: &mut R, bytes: &mut [u8]) -> Input
+impl Error for Cut {}
+
+// After a call that failed: `Ok` where it is to be made again. Where it would have had to wait, others run first.
+fn passed(error: io::Error) -> io::Result<()>
+    ensures again { IsOk result ↔ ((error_kind error ≡ ErrorKind.WouldBlock) ⊎ (error_kind error ≡ ErrorKind.Interrupted)) }
+    ensures same { IfErr result (λ e. e ≡ error) }
+{
+    match error.kind() {
+        ErrorKind::WouldBlock => {
+            thread::yield_now();
+            Ok(())
+        }
+        ErrorKind::Interrupted => Ok(()),
+        _ => Err(error),
+    }
+}
+
+/// One read, for which a byte at least is lent: how many bytes came, or `None` at the end of the input.
+pub fn read<R: Read>(input: &mut R, bytes: &mut [u8]) -> io::Result<Option<usize>>
     ensures within { Within (length bytes.new) result }
     ensures taken { Takes (R.remaining input.old) (R.remaining input.new) result bytes.new }
 {
     for _ in 0..u64::MAX {
         match input.read(bytes) {
-            Ok(0) => return Input::End,
-            Ok(n) => return Input::Bytes(n),
-            Err(error) => {
-                if !is_passing(error) {
-                    return Input::Failed;
-                }
-            }
+            Ok(0) => return Ok(None),
+            Ok(n) => return Ok(Some(n)),
+            Err(error) => passed(error)?,
         }
     }
-    Input::Failed
+    Err(ErrorKind::TimedOut.into())
 }
 
-// Reads till the bytes are full or the input ends.
-pub fn fill<R: Read>(input: &mut R, bytes: &mut [u8]) -> Filled
-    ensures within { result.n ≤ length bytes.new }
-    ensures taken { Consumes (R.remaining input.old) (R.remaining input.new) (take result.n bytes.new) }
-    ensures ended { (T result.failed → ⊥) → result.n < length bytes.new → IsAtEnd (R.remaining input.new) }
+/// Reads till the bytes are full or the input ends, and answers how many came.
+pub fn fill<R: Read>(input: &mut R, bytes: &mut [u8]) -> Result<usize, Cut>
+    ensures within { came result ≤ length bytes.new }
+    ensures taken { Consumes (R.remaining input.old) (R.remaining input.new) (take (came result) bytes.new) }
+    ensures ended { IfOk result (λ n. n < length bytes.new → IsAtEnd (R.remaining input.new)) }
 {
     let mut n = 0;
     while n < bytes.len() {
         match read(input, &mut bytes[n..]) {
-            Input::Bytes(k) => n += k,
-            Input::End => return Filled { n, failed: false },
-            Input::Failed => return Filled { n, failed: true },
+            Ok(Some(k)) => n += k,
+            Ok(None) => return Ok(n),
+            Err(error) => return Err(Cut { n, error }),
         }
     }
-    Filled { n, failed: false }
+    Ok(n)
 }
 
-fn write_all<W: Write>(output: &mut W, bytes: &[u8]) -> bool
-    ensures written { T result → Appends (W.contents output.old) (W.contents output.new) bytes.now }
+/// All the bytes go out. Where a write fails, a front of them may have gone, and nothing is to follow it.
+pub fn write_all<W: Write>(output: &mut W, bytes: &[u8]) -> io::Result<()>
+    ensures written { OnOk result (Appends (W.contents output.old) (W.contents output.new) bytes.now) }
     ensures front { AppendsFront (W.contents output.old) (W.contents output.new) (length bytes.now) bytes.now }
 {
     let mut at = 0;
     for _ in 0..u64::MAX {
         if bytes.len() <= at {
-            return true;
+            return Ok(());
         }
         match output.write(&bytes[at..]) {
-            Ok(0) => return false,
+            Ok(0) => return Err(ErrorKind::WriteZero.into()),
             Ok(n) => at += n,
-            Err(error) => {
-                if !is_passing(error) {
-                    return false;
-                }
-            }
+            Err(error) => passed(error)?,
         }
     }
-    false
+    Err(ErrorKind::TimedOut.into())
 }
 
-// The first n bytes go out. False where there are fewer, or a write fails, and nothing is to follow it.
-pub fn write_front<W: Write>(output: &mut W, bytes: &[u8], n: usize) -> bool
-    ensures within { T result → n ≤ length bytes.now }
-    ensures written { T result → Appends (W.contents output.old) (W.contents output.new) (take n bytes.now) }
+/// The first n bytes go out. An error where there are fewer, or a write fails, and nothing is to follow it.
+pub fn write_front<W: Write>(output: &mut W, bytes: &[u8], n: usize) -> io::Result<()>
+    ensures within { OnOk result (n ≤ length bytes.now) }
+    ensures written { OnOk result (Appends (W.contents output.old) (W.contents output.new) (take n bytes.now)) }
     ensures front { AppendsFront (W.contents output.old) (W.contents output.new) n bytes.now }
 {
-    if bytes.len() < n {
-        return false;
+    match bytes.get(..n) {
+        Some(front) => write_all(output, front),
+        None => Err(ErrorKind::InvalidInput.into()),
     }
-    write_all(output, &bytes[..n])
 }

@@ -5,10 +5,11 @@ use mathlib.Core.Path.{◌≡◌, refl, sym, ap, ◌∙◌}
 use mathlib.Core.List.{List, [], ◌∷◌, ◌++◌, append-nil}
 use native.Mathlib.Omega.{arith}
 use native.Mathlib.Numerals.{add-one}
-use lib.ListN.{length, take, drop, get_or, length-append, drop_of_length-le}
-use lib.Seq.{length-sets, take-nil, take_all, drop-cons, length-take-le}
+use lib.Dec.{leb}
+use lib.ListN.{length, take, drop, get_or, length-append, length-take, drop_of_length-le}
+use lib.Seq.{sets, length-sets, take-nil, drop-cons}
 use Rattle.rows.specs.Rows.{written}
-use Rattle.rows.proofs.Laws.{sets_append, written_in}
+use Rattle.rows.proofs.Laws.{sets_append, written_in, pick_same}
 use Rattle.text.specs.Shown.{Text, Puts, show, decimal, marked, spaced, joined, line}
 
 -- ---- text after text
@@ -37,27 +38,18 @@ show_nothing p =
     let e : p.at + 0 ≡ p.at = omega arith in
     rw (take-nil {A = ℕ} (length p.bytes - p.at)) (ap (λ (n : ℕ). record { at = n; bytes = p.bytes }) e)
 
--- ---- put's three cases
-pub show_past : (text : List ℕ) (at : ℕ) (l : List ℕ) → length l < at → record { at = at; bytes = l } ≡ show text (record { at = at; bytes = l })
-unfolding show
-show_past text at l h =
-    let z : length l - at ≡ 0 = omega arith in
-    let e : at + 0 ≡ at = omega arith in
-    rw (z, e)
+-- ---- a store of what fits; past the end nothing does
+stored : (at : ℕ) (vs l : List ℕ) → length vs ≤ length l - at → written at vs l ≡ sets l at vs
+unfolding written
+stored at [] l h = pick_same (leb (at + 0) (length l)) l
+stored at (v ∷ vs) l h = written_in at (v ∷ vs) l (omega arith)
 
-pub show_part : (text : List ℕ) (at : ℕ) (l m : List ℕ) → at ≤ length l → length l - at < length text → m ≡ written at (take (length l - at - 0) text) l
-    → record { at = at + (length l - at); bytes = m } ≡ show text (record { at = at; bytes = l })
+pub show_fitting : (text fitting : List ℕ) (at : ℕ) (l m : List ℕ) → fitting ≡ take (length l - at) text → m ≡ written at fitting l
+    → record { at = at + length fitting; bytes = m } ≡ show text (record { at = at; bytes = l })
 unfolding show
-show_part text at l m h k e =
-    let z : length l - at - 0 ≡ length l - at = omega arith in
-    let n : length (take (length l - at) text) ≡ length l - at = length-take-le (length l - at) text (omega arith) in
-    rw (e, z, written_in at (take (length l - at) text) l (omega arith), n)
-
-pub show_whole : (text : List ℕ) (at : ℕ) (l m : List ℕ) → at ≤ length l → length text ≤ length l - at → m ≡ written at text l
-    → record { at = at + length text; bytes = m } ≡ show text (record { at = at; bytes = l })
-unfolding show
-show_whole text at l m h k e =
-    rw (e, written_in at text l (omega arith), take_all (length l - at) text k)
+show_fitting text fitting at l m f e =
+    let h : length (take (length l - at) text) ≤ length l - at = omega (arith, length-take (length l - at) text) in
+    rw (e, f) (ap (λ (b : List ℕ). record { at = at + length (take (length l - at) text); bytes = b }) (stored at (take (length l - at) text) l h))
 
 -- ---- numbers and lines
 pub show_marked : (mark n : ℕ) (p q r : Text) → q ≡ show (mark ∷ []) p → r ≡ show (decimal n) q → r ≡ show (marked mark (n ∷ [])) p

@@ -11,16 +11,10 @@ const NEWLINE: [u8; 1] = *b"\n";
 pub fn put(out: &mut [u8], at: usize, text: &[u8]) -> usize
     ensures { record { at = result; bytes = out.new } ≡ show text.now (record { at = at; bytes = out.old }) }
 {
-    if out.len() < at {
-        return at;
-    }
-    let room = out.len() - at;
-    if room < text.len() {
-        rows::copy_in(out, at, &text[0..room]);
-        return at + room;
-    }
-    rows::copy_in(out, at, text);
-    at + text.len()
+    let room = out.len().saturating_sub(at);
+    let fitting = &text[..room.min(text.len())];
+    rows::copy_in(out, at, fitting);
+    at + fitting.len()
 }
 
 // A number in decimal.
@@ -52,10 +46,8 @@ pub fn put_numbers(out: &mut [u8], at: usize, mark: u8, numbers: &[u64]) -> usiz
     ensures { record { at = result; bytes = out.new } ≡ show (marked mark numbers.now) (record { at = at; bytes = out.old }) }
 {
     let mut to = at;
-    let mut i = 0;
-    while i < numbers.len() {
-        to = put_marked(&mut *out, to, mark, numbers[i]);
-        i += 1;
+    for n in numbers {
+        to = put_marked(&mut *out, to, mark, *n);
     }
     to
 }
@@ -81,5 +73,5 @@ pub fn put_line(out: &mut [u8], at: usize, name: &[u8], numbers: &[u64]) -> usiz
 pub fn put_call(out: &mut [u8], at: usize, name: &[u8], number: u8) -> usize
     ensures { record { at = result; bytes = out.new } ≡ show (line name.now (number ∷ [])) (record { at = at; bytes = out.old }) }
 {
-    put_line(out, at, name, &[number as u64])
+    put_line(out, at, name, &[u64::from(number)])
 }

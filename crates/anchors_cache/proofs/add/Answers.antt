@@ -1,21 +1,22 @@
 use Rattle.anchors_cache.specs.Calls.{add_call, answer}
-use Rattle.anchors_cache.proofs.Asked.{on_not, add_asks}
+use Rattle.anchors_cache.proofs.Refused.{done_refused, on_refused}
+use Rattle.anchors_cache.proofs.Asked.{add_asks}
 use mathlib.Core.Path.{sym, ◌∙◌}
 use Rattle.anchors_cache.proofs.add.Goals as goal
 
-pub returns-then-r-ne0 : goal.returns-then-r-ne0
-unfolding add_call answer
-returns-then-r-ne0 c =
-    let c-if1 = c.if-r-ne0 in
-    rw (← c.add_number-r.ensures) (rw (on_not _ _ _ c-if1.true), sym (on_not _ _ _ c-if1.true), sym (on_not _ _ _ c-if1.true))
+pub returns-in_err-check_add : goal.returns-in_err-check_add
+unfolding add_call
+returns-in_err-check_add c =
+    let e = c.in_err-check_add.ensures in
+    (done_refused _ _ _ _ e _ c.from_residual.ensures, sym (on_refused _ _ _ _ e), sym (on_refused _ _ _ _ e))
 
-pub added_cache-c-requires : goal.added_cache-c-requires
-added_cache-c-requires c =
+pub added_cache-cache-requires : goal.added_cache-cache-requires
+added_cache-cache-requires c =
     let c-args = c.args in
-    add_asks c-args.area.now c-args.tables.now c-args.t c-args.anchor.id c-args.our_exts_count c-args.messages.now (sym c.add_number-r.ensures ∙ c.if-r-ne0.false)
+    add_asks c-args.area.now c-args.tables.now c-args.t c-args.anchor.id c-args.our_exts_count c-args.messages.now (sym c.in_ok-check_add.ensures)
 
 pub returns : goal.returns
 unfolding add_call answer
 returns c =
-    let c-added-cache = c.added_cache-c in
-    rw (sym c.add_number-r.ensures ∙ c.if-r-ne0.false) (rw c-added-cache.ensures.0, c-added-cache.ensures.1, c-added-cache.ensures.2)
+    let c-added = c.added_cache-cache in
+    rw (sym c.in_ok-check_add.ensures) (rw (c.with_cache.ensures, c-added.ensures.0), c-added.ensures.1, c-added.ensures.2)

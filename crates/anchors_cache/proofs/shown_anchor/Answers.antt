@@ -25,7 +25,7 @@ returns c =
       anchors_take a.first a.i a.len l (omega arith),
       anchors_drop a.first a.i a.len l,
       anchors_cons (a.first + a.i) (a.len - a.i) l (omega arith),
-      c.anchor_at-a.ensures.0,
+      c.anchor_at-value.ensures.0,
       c.total_count.ensures.0,
       c.author_at-author.ensures ∙ sym (part_part l at 50 12 author_bytes (omega arith)),
     )

@@ -19,4 +19,4 @@ returns c =
     let a = c.args in
     let l = a.tables.now in
     let i = a.first + (a.len - 1) in
-    rw (last_info a.first a.len l (omega arith), c.info_at-e.ensures, c.author_at-author.ensures ∙ sym (part_part l (52 * i) 52 20 author_bytes (omega arith)))
+    rw (last_info a.first a.len l (omega arith), c.info_at-value.ensures, c.author_at-author.ensures ∙ sym (part_part l (52 * i) 52 20 author_bytes (omega arith)))

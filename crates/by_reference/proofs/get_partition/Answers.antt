@@ -1,17 +1,16 @@
-use Rattle.std.proofs.Common.{◌≡◌, ◌≤◌, ◌∙◌, length, drop, ap, sym, arith}
-use lib.ListN.{drop_of_length-le}
-use mir.Syntax.{w8}
-use mir.ValLaws.{to_z-of_z}
-use Rattle.by_reference.specs.Search.{nothing_walked, walked_over, walk_answer}
-use Rattle.by_reference.proofs.Routes.{the_walk_answers_as_the_rule}
+use Rattle.std.proofs.Common.{rules, tests}
+use Rattle.std.proofs.lemmas.Iterator.{YieldsList-from_slice}
+use Rattle.std.proofs.lemmas.Iterator.Search.{find_from_yields_List}
+use Rattle.by_reference.specs.Search.{same_route}
+use Rattle.by_reference.proofs.Routes.{partition_of_found, refused_on, answered}
 use Rattle.by_reference.proofs.get_partition.Goals as goal
 
--- No record is left, so the walk has come to what it comes to in all.
+pub returns-in_err-check_routes : goal.returns-in_err-check_routes
+returns-in_err-check_routes c = refused_on _ _ _ _ _ c.from_residual.ensures c.in_err-check_routes.ensures
+
 pub returns : goal.returns
 returns c =
     let x = c.args in
-    let l = c.loop-i in
-    let past : length x.routes.now ≤ l.i = omega arith in
-    let all : walked_over x.workchain x.account l.w (drop l.i x.routes.now) ≡ walked_over x.workchain x.account nothing_walked x.routes.now = rw (← to_z-of_z w8 x.workchain c.ranges.workchain) l.invariant.1 in
-    let none = ap (walked_over x.workchain x.account l.w) (drop_of_length-le x.routes.now {i = l.i} past) in
-    c.routed.ensures ∙ ap walk_answer (sym none ∙ all) ∙ the_walk_answers_as_the_rule x.workchain x.account x.routes.now
+    let first = find_from_yields_List (λ q. same_route q x.workchain x.account) c.find-first.new.self _ c.find-first.result c.find-first.ensures.ran (YieldsList-from_slice x.routes.now cc) (λ q b p k. search (rules, tests)) in
+    let partition = partition_of_found (λ q. q.now) c.find-first.result c.map_or.result _ x.routes.now x.workchain x.account (λ q h. search (rules, tests)) c.map_or.ensures first in
+    answered x.routes.now x.workchain x.account c.map_or.result partition c.in_ok-check_routes.ensures

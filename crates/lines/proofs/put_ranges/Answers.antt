@@ -1,32 +1,16 @@
-use Prim.Native.Nat.{◌≤◌}
-use mathlib.Core.Path.{◌≡◌, refl, sym, ◌∙◌}
-use native.Mathlib.Omega.{arith}
-use lib.ListN.{length-take, length, take}
+use mathlib.Core.Path.{sym, ◌∙◌}
 use borrow.Author.Rules.{rules}
 use Rattle.lines.proofs.Laws.{ranges_turn, ranges_end}
 use Rattle.lines.proofs.put_ranges.Goals as goal
 
-pub loop-i-init : goal.loop-i-init
-loop-i-init c = (refl, refl)
-
-pub returns-then-state-i : goal.returns-then-state-i
-returns-then-state-i c =
-    let c-args = c.args in
-    let c-loop = c.loop-i in
-    let h : length (take c-args.state.len c-args.state.ranges) ≤ c-loop.i = simp length-take (omega arith) in
-    sym (ranges_end c-args.state.len c-args.state.ranges c-loop.i _ h) ∙ c-loop.invariant.1
-
-pub loop-i-preserved : goal.loop-i-preserved
-loop-i-preserved c =
-    let c-args = c.args in
-    let c-loop = c.loop-i in
-    let n : length c-args.state.ranges ≡ 16 = c.well_formed.1.1.0.1.1.0.1.0.1 in
-    (search rules, ranges_turn c-args.state.len c-args.state.ranges c-loop.i _ _ _ c.if-state-i.false (omega arith) c.put_range-to.ensures ∙ c-loop.invariant.1)
+pub loop-range-preserved : goal.loop-range-preserved
+loop-range-preserved c =
+    let e = c.in-Some.ensures.steps in
+    let h = c.loop-range.invariant in
+    (search rules, ranges_turn c.in-Some.range.now c.next.new.self.iter.rest.now _ c.next.new.self.n _ _ _ e.0 e.1 c.put_range-to.ensures ∙ h.1)
 
 pub returns : goal.returns
 returns c =
-    let c-args = c.args in
-    let c-loop = c.loop-i in
-    let n : length c-args.state.ranges ≡ 16 = c.well_formed.1.1.0.1.1.0.1.0.1 in
-    let h : length (take c-args.state.len c-args.state.ranges) ≤ c-loop.i = simp length-take (omega arith) in
-    sym (ranges_end c-args.state.len c-args.state.ranges c-loop.i _ h) ∙ c-loop.invariant.1
+    let e = c.in-None.ensures.steps in
+    let h = c.loop-range.invariant in
+    sym (ranges_end c.loop-range.range-iterator.iter.rest.now c.loop-range.range-iterator.n _ (λ p. (e p).0)) ∙ h.1

@@ -3,10 +3,6 @@ use borrow.Author.Rules.{rules}
 use Rattle.messages_buffer.specs.Fullness.{free_in}
 use Rattle.messages_buffer.proofs.check_is_filled.Goals as goal
 
-pub returns-then-most-count : goal.returns-then-most-count
-unfolding free_in
-returns-then-most-count c = search rules
-
 pub returns : goal.returns
 unfolding free_in
 returns c = search rules

@@ -1,38 +1,22 @@
-use mathlib.Core.Path.{◌≡◌, refl, sym, ◌∙◌}
-use native.Mathlib.Omega.{arith}
-use lib.ListN.{length}
+-- `messages_buffer::check_limits` meets its contract: the test of each element.
+use mathlib.Core.Path.{sym, ◌∙◌}
 use borrow.Author.Rules.{rules}
-use borrow.Author.Tests.{not-true, not-false}
+use borrow.Author.Tests.{tests}
+use Rattle.std.proofs.lemmas.Iterator.{YieldsList-from_slice}
+use Rattle.std.proofs.lemmas.Iterator.Search.{all_from_yields_List}
 use Rattle.rows.proofs.Laws.{pick_yes, pick_no}
 use Rattle.messages_buffer.specs.Fullness.{limit_fits, limits_number}
-use Rattle.messages_buffer.proofs.Laws.{every_fail, every_next, every_end}
+use Rattle.messages_buffer.proofs.Laws.{all_is_every}
 use Rattle.messages_buffer.proofs.check_limits.Goals as goal
 
-pub loop-i-init : goal.loop-i-init
-loop-i-init c = (search rules, refl)
-
-pub returns-then-not-limit_fits : goal.returns-then-not-limit_fits
+pub returns-then-not-all : goal.returns-then-not-all
 unfolding limits_number
-returns-then-not-limit_fits c =
-    let l = c.loop-i in
-    let xs = c.args.limits in
-    let i = l.i in
-    let n : length xs ≡ 8 = search rules in
-    sym (pick_no _ _ _ (sym l.invariant.1 ∙ every_fail limit_fits 0 xs i (omega arith) (sym c.limit_fits.ensures ∙ not-true _ c.if-not-limit_fits.true-raw)))
-
-pub loop-i-preserved : goal.loop-i-preserved
-loop-i-preserved c =
-    let l = c.loop-i in
-    let xs = c.args.limits in
-    let i = l.i in
-    let n : length xs ≡ 8 = search rules in
-    (omega arith, every_next limit_fits 0 xs i (omega arith) (sym c.limit_fits.ensures ∙ not-false _ c.if-not-limit_fits.false-raw) ∙ l.invariant.1)
+returns-then-not-all c =
+    let told = all_from_yields_List limit_fits _ _ _ c.all.ensures.ran (YieldsList-from_slice c.args.limits c.iter.ensures.rest) (λ x b q k. search (rules, tests)) in
+    sym (pick_no _ _ _ (sym (all_is_every limit_fits c.args.limits) ∙ (sym told ∙ c.if-not-all.true)))
 
 pub returns : goal.returns
 unfolding limits_number
 returns c =
-    let l = c.loop-i in
-    let xs = c.args.limits in
-    let i = l.i in
-    let n : length xs ≡ 8 = search rules in
-    sym (pick_yes _ _ _ (sym l.invariant.1 ∙ every_end limit_fits 0 xs i (omega arith)))
+    let told = all_from_yields_List limit_fits _ _ _ c.all.ensures.ran (YieldsList-from_slice c.args.limits c.iter.ensures.rest) (λ x b q k. search (rules, tests)) in
+    sym (pick_yes _ _ _ (sym (all_is_every limit_fits c.args.limits) ∙ (sym told ∙ c.if-not-all.false)))

@@ -1,7 +1,7 @@
 -- Each return is the answer to the first "no", or the rule's.
+use Rattle.refusals.proofs.Laws.{handed_on, refused_is_not_done}
 use mathlib.Core.Path.{◌≡◌, sym, ◌∙◌}
 use native.Mathlib.Omega.{arith}
-use borrow.Author.Tests.{not-true, not-false}
 use Rattle.rows.proofs.Laws.{no_here, yes_here}
 use Rattle.reader_rules.specs.State.{state_number}
 use Rattle.reader_offsets.specs.Calls.{read_and_collected_call}
@@ -9,26 +9,26 @@ use Rattle.reader_offsets.proofs.Numbers.{flag_refused, flag_done}
 use Rattle.externals_reader.proofs.Sound.{sound_parts}
 use Rattle.reader_offsets.proofs.all_ranges_read_and_collected.Goals as goal
 
-pub returns-then-of_state-ne0 : goal.returns-then-of_state-ne0
+pub returns-in_err-check_state : goal.returns-in_err-check_state
 unfolding read_and_collected_call
-returns-then-of_state-ne0 c = flag_refused _ _ (sym c.check_state-of_state.ensures) c.if-of_state-ne0.true _
+returns-in_err-check_state c = rw (handed_on _ _ c.from_residual.ensures) (flag_refused _ _ (sym c.in_err-check_state.ensures) (refused_is_not_done _) _)
 
-pub returns-then-not-reader : goal.returns-then-not-reader
+pub returns-else-reader : goal.returns-else-reader
 unfolding read_and_collected_call
-returns-then-not-reader c =
+returns-else-reader c =
     let s = c.args.reader in
-    let sound : state_number s.reader_state ≡ 0 = sym c.check_state-of_state.ensures ∙ c.if-of_state-ne0.false in
-    flag_done _ sound _ _ (no_here s.all_ranges_fully_read _ (not-true s.all_ranges_fully_read c.if-not-reader.true))
+    let sound : state_number s.reader_state ≡ 0 = sym c.in_ok-check_state.ensures in
+    flag_done _ sound _ _ (c.if-reader.false ∙ no_here s.all_ranges_fully_read _ c.if-reader.false)
 
 pub every_range-requires : goal.every_range-requires
 every_range-requires c =
     let s = c.args.reader in
-    let sound : state_number s.reader_state ≡ 0 = sym c.check_state-of_state.ensures ∙ c.if-of_state-ne0.false in
+    let sound : state_number s.reader_state ≡ 0 = sym c.in_ok-check_state.ensures in
     omega (arith, (sound_parts s.reader_state sound).0)
 
-pub returns : goal.returns
+pub returns-then-reader : goal.returns-then-reader
 unfolding read_and_collected_call
-returns c =
+returns-then-reader c =
     let s = c.args.reader in
-    let sound : state_number s.reader_state ≡ 0 = sym c.check_state-of_state.ensures ∙ c.if-of_state-ne0.false in
-    flag_done _ sound _ _ (yes_here s.all_ranges_fully_read _ _ (not-false s.all_ranges_fully_read c.if-not-reader.false) c.every_range.ensures)
+    let sound : state_number s.reader_state ≡ 0 = sym c.in_ok-check_state.ensures in
+    flag_done _ sound _ _ (yes_here s.all_ranges_fully_read _ _ (c.if-reader.true) c.every_range.ensures)

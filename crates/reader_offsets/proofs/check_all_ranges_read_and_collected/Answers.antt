@@ -1,7 +1,7 @@
 -- Each return is the answer to the first "no", or the rule's.
+use Rattle.refusals.proofs.Laws.{handed_on, refused_is_not_done}
 use mathlib.Core.Path.{◌≡◌, sym, ◌∙◌}
 use native.Mathlib.Omega.{arith}
-use borrow.Author.Tests.{not-true, not-false}
 use Rattle.rows.proofs.Laws.{no_here, yes_here}
 use Rattle.reader_rules.specs.State.{state_number}
 use Rattle.reader_offsets.specs.Calls.{check_read_and_collected_call}
@@ -9,32 +9,32 @@ use Rattle.reader_offsets.proofs.Numbers.{flag_refused, flag_done}
 use Rattle.externals_reader.proofs.Sound.{sound_parts}
 use Rattle.reader_offsets.proofs.check_all_ranges_read_and_collected.Goals as goal
 
-pub returns-then-of_state-ne0 : goal.returns-then-of_state-ne0
+pub returns-in_err-check_state : goal.returns-in_err-check_state
 unfolding check_read_and_collected_call
-returns-then-of_state-ne0 c = flag_refused _ _ (sym c.check_state-of_state.ensures) c.if-of_state-ne0.true _
+returns-in_err-check_state c = rw (handed_on _ _ c.from_residual.ensures) (flag_refused _ _ (sym c.in_err-check_state.ensures) (refused_is_not_done _) _)
 
 pub all_fully_read-requires : goal.all_fully_read-requires
 all_fully_read-requires c =
     let s = c.args.reader in
-    let sound : state_number s.reader_state ≡ 0 = sym c.check_state-of_state.ensures ∙ c.if-of_state-ne0.false in
+    let sound : state_number s.reader_state ≡ 0 = sym c.in_ok-check_state.ensures in
     (sound_parts s.reader_state sound).0
 
-pub returns-then-not-all_fully_read : goal.returns-then-not-all_fully_read
+pub returns-else-all_fully_read : goal.returns-else-all_fully_read
 unfolding check_read_and_collected_call
-returns-then-not-all_fully_read c =
+returns-else-all_fully_read c =
     let s = c.args.reader in
-    let sound : state_number s.reader_state ≡ 0 = sym c.check_state-of_state.ensures ∙ c.if-of_state-ne0.false in
-    flag_done _ sound _ _ (no_here _ _ (sym c.all_fully_read.ensures ∙ not-true _ c.if-not-all_fully_read.true-raw))
+    let sound : state_number s.reader_state ≡ 0 = sym c.in_ok-check_state.ensures in
+    flag_done _ sound _ _ (c.if-all_fully_read.false ∙ no_here _ _ (sym c.all_fully_read.ensures ∙ c.if-all_fully_read.false))
 
 pub every_range-requires : goal.every_range-requires
 every_range-requires c =
     let s = c.args.reader in
-    let sound : state_number s.reader_state ≡ 0 = sym c.check_state-of_state.ensures ∙ c.if-of_state-ne0.false in
+    let sound : state_number s.reader_state ≡ 0 = sym c.in_ok-check_state.ensures in
     omega (arith, (sound_parts s.reader_state sound).0)
 
-pub returns : goal.returns
+pub returns-then-all_fully_read : goal.returns-then-all_fully_read
 unfolding check_read_and_collected_call
-returns c =
+returns-then-all_fully_read c =
     let s = c.args.reader in
-    let sound : state_number s.reader_state ≡ 0 = sym c.check_state-of_state.ensures ∙ c.if-of_state-ne0.false in
-    flag_done _ sound _ _ (yes_here _ _ _ (sym c.all_fully_read.ensures ∙ not-false _ c.if-not-all_fully_read.false-raw) c.every_range.ensures)
+    let sound : state_number s.reader_state ≡ 0 = sym c.in_ok-check_state.ensures in
+    flag_done _ sound _ _ (yes_here _ _ _ (sym c.all_fully_read.ensures ∙ c.if-all_fully_read.true) c.every_range.ensures)

@@ -1,4 +1,5 @@
 -- Each return is the answer to the first "no", or the rule's.
+use Rattle.refusals.proofs.Laws.{handed_on, refused_is_not_done}
 use mathlib.Core.Path.{◌≡◌, sym, ap, ◌∙◌}
 use mathlib.Core.Bool.{not}
 use native.Mathlib.Omega.{arith}
@@ -8,19 +9,19 @@ use Rattle.reader_offsets.proofs.Numbers.{flag_refused, flag_done}
 use Rattle.externals_reader.proofs.Sound.{sound_parts}
 use Rattle.reader_offsets.proofs.has_messages_in_buffers.Goals as goal
 
-pub returns-then-of_state-ne0 : goal.returns-then-of_state-ne0
+pub returns-in_err-check_state : goal.returns-in_err-check_state
 unfolding has_messages_call
-returns-then-of_state-ne0 c = flag_refused _ _ (sym c.check_state-of_state.ensures) c.if-of_state-ne0.true _
+returns-in_err-check_state c = rw (handed_on _ _ c.from_residual.ensures) (flag_refused _ _ (sym c.in_err-check_state.ensures) (refused_is_not_done _) _)
 
-pub every_range-none-requires : goal.every_range-none-requires
-every_range-none-requires c =
+pub every_range-requires : goal.every_range-requires
+every_range-requires c =
     let s = c.args.reader in
-    let sound : state_number s.reader_state ≡ 0 = sym c.check_state-of_state.ensures ∙ c.if-of_state-ne0.false in
+    let sound : state_number s.reader_state ≡ 0 = sym c.in_ok-check_state.ensures in
     omega (arith, (sound_parts s.reader_state sound).0)
 
 pub returns : goal.returns
 unfolding has_messages_call
 returns c =
     let s = c.args.reader in
-    let sound : state_number s.reader_state ≡ 0 = sym c.check_state-of_state.ensures ∙ c.if-of_state-ne0.false in
-    flag_done _ sound _ _ (ap not c.every_range-none.ensures)
+    let sound : state_number s.reader_state ≡ 0 = sym c.in_ok-check_state.ensures in
+    flag_done _ sound _ _ (ap not c.every_range.ensures)

@@ -1,4 +1,5 @@
 -- Each return is the answer to the first "no", or the rule's.
+use Rattle.refusals.proofs.Laws.{handed_on, refused_is_not_done}
 use Prim.Native.Nat.{◌+◌, ◌<◌}
 use mathlib.Core.Path.{◌≡◌, sym, ap, ◌∙◌}
 use native.Mathlib.Omega.{arith}
@@ -11,17 +12,17 @@ use Rattle.reader_rules.specs.declared.ExternalsPartitionReaderState.{ExternalsP
 use Rattle.reader_offsets.proofs.Numbers.{refused_5, refused_15, refused_16, done}
 use Rattle.reader_offsets.proofs.increment_curr_processed_offset.Goals as goal
 
-pub returns-then-of_state-ne0 : goal.returns-then-of_state-ne0
+pub returns-in_err-check_state : goal.returns-in_err-check_state
 unfolding increment_call
-returns-then-of_state-ne0 c =
+returns-in_err-check_state c =
     let s = c.args.reader in
-    refused_5 s _ _ _ _ c.check_state-of_state.ensures c.if-of_state-ne0.true
+    rw (handed_on _ _ c.from_residual.ensures) (refused_5 s _ _ _ _ c.in_err-check_state.ensures (refused_is_not_done _))
 
 pub returns-then-not-p : goal.returns-then-not-p
 unfolding increment_call
 returns-then-not-p c =
     let s = c.args.reader in
-    let sound : state_number s.reader_state ≡ 0 = sym c.check_state-of_state.ensures ∙ c.if-of_state-ne0.false in
+    let sound : state_number s.reader_state ≡ 0 = sym c.in_ok-check_state.ensures in
     refused_15 s _ _ _ sound (sym (ap (λ (z : ExternalsPartitionReaderState). z.present) c.partition_at-p.ensures) ∙ not-true _ c.if-not-p.true)
 
 pub returns-then-p : goal.returns-then-p
@@ -30,7 +31,7 @@ returns-then-p c =
     let c-args = c.args in
     let c-partition-at = c.partition_at-p in
     let s = c-args.reader in
-    let sound : state_number s.reader_state ≡ 0 = sym c.check_state-of_state.ensures ∙ c.if-of_state-ne0.false in
+    let sound : state_number s.reader_state ≡ 0 = sym c.in_ok-check_state.ensures in
     let i = c-args.par_id in
     let p = reader_partition i s.reader_state.by_partitions in
     let q = ap (λ (z : ExternalsPartitionReaderState). z.curr_processed_offset) c-partition-at.ensures in
@@ -42,7 +43,7 @@ returns c =
     let c-args = c.args in
     let c-partition-at = c.partition_at-p in
     let s = c-args.reader in
-    let sound : state_number s.reader_state ≡ 0 = sym c.check_state-of_state.ensures ∙ c.if-of_state-ne0.false in
+    let sound : state_number s.reader_state ≡ 0 = sym c.in_ok-check_state.ensures in
     let i = c-args.par_id in
     let p = reader_partition i s.reader_state.by_partitions in
     let q = ap (λ (z : ExternalsPartitionReaderState). z.curr_processed_offset) c-partition-at.ensures in

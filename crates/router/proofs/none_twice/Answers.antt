@@ -1,25 +1,21 @@
 use Rattle.router.proofs.Laws.{twice_next, twice_stop, twice_end}
-use mathlib.Core.Path.{refl, sym, ◌∙◌}
+use mathlib.Core.Path.{sym, ◌∙◌}
+use lib.ListN.{length-take}
 use native.Mathlib.Omega.{arith}
-use lib.ListN.{drop}
 use Rattle.router.proofs.none_twice.Goals as goal
 
-pub loop-left-init : goal.loop-left-init
-loop-left-init c = (omega arith, omega arith, refl)
+pub slice_bounds-address-end : goal.slice_bounds-address-end
+slice_bounds-address-end c = let h = c.in-Some.ensures.cases.3 in omega (arith, length-take 33 c.in-Some.route.now)
 
-pub returns-in_default : goal.returns-in_default
-returns-in_default c =
-    let found = c.find_row-again in
-    let l = c.loop-left in
-    sym (twice_stop c.args.routes.now l.at l.left c.loop-left-test.true l.invariant.0 l.invariant.1 found.result found.ensures _ c.in_default.is) ∙ l.invariant.2
+pub returns-in_default-find_row : goal.returns-in_default-find_row
+returns-in_default-find_row c =
+    let cut = c.in-Some.ensures.cases in
+    sym (twice_stop c.loop-route.left.now _ _ cut.0 (cut.1, cut.2) _ c.find_row.ensures _ c.in_default-find_row.is) ∙ c.loop-route.invariant
 
-pub loop-left-preserved : goal.loop-left-preserved
-loop-left-preserved c =
-    let found = c.find_row-again in
-    let l = c.loop-left in
-    (omega arith, omega arith, sym (twice_next c.args.routes.now l.at l.left c.loop-left-test.true l.invariant.0 l.invariant.1 found.result found.ensures c.in-Nothing.is) ∙ l.invariant.2)
+pub loop-route-preserved : goal.loop-route-preserved
+loop-route-preserved c =
+    let cut = c.in-Some.ensures.cases in
+    sym (twice_next c.loop-route.left.now _ _ cut.0 (cut.1, cut.2) _ c.find_row.ensures c.in-None.is) ∙ c.loop-route.invariant
 
 pub returns : goal.returns
-returns c =
-    let l = c.loop-left in
-    sym (twice_end l.left (drop l.at c.args.routes.now) c.loop-left-test.false) ∙ l.invariant.2
+returns c = sym (twice_end _ c.in_default.ensures.cases) ∙ c.loop-route.invariant

@@ -14,21 +14,21 @@ returns-then-message-ne-MESSAGE_LEN c =
 pub returns-in_default : goal.returns-in_default
 returns-in_default c =
     let a = c.args in
-    sym (partition_is_that_of_the_row_found a.routes.now a.message.now c.if-message-ne-MESSAGE_LEN.false ∙ ap (partition_at a.routes.now) (sym c.find_row-found.ensures ∙ c.in_default.is))
+    sym (partition_is_that_of_the_row_found a.routes.now a.message.now c.if-message-ne-MESSAGE_LEN.false ∙ ap (partition_at a.routes.now) (sym c.find_row.ensures ∙ c.in_default.is))
 
 pub overflow_mul-i : goal.overflow_mul-i
 overflow_mul-i c =
     let a = c.args in
-    let w = found_within a.message.now 34 a.routes.now _ (sym c.find_row-found.ensures ∙ c.in-At.is) in
+    let w = found_within a.message.now 34 a.routes.now _ (sym c.find_row.ensures ∙ c.in-Some.is) in
     omega arith
 
 pub overflow_add-i : goal.overflow_add-i
 overflow_add-i c =
     let a = c.args in
-    let w = found_within a.message.now 34 a.routes.now _ (sym c.find_row-found.ensures ∙ c.in-At.is) in
+    let w = found_within a.message.now 34 a.routes.now _ (sym c.find_row.ensures ∙ c.in-Some.is) in
     omega arith
 
 pub returns : goal.returns
 returns c =
     let a = c.args in
-    c.byte_at.ensures ∙ sym (partition_is_that_of_the_row_found a.routes.now a.message.now c.if-message-ne-MESSAGE_LEN.false ∙ ap (partition_at a.routes.now) (sym c.find_row-found.ensures ∙ c.in-At.is))
+    c.byte_at.ensures ∙ sym (partition_is_that_of_the_row_found a.routes.now a.message.now c.if-message-ne-MESSAGE_LEN.false ∙ ap (partition_at a.routes.now) (sym c.find_row.ensures ∙ c.in-Some.is))

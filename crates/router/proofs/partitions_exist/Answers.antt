@@ -1,23 +1,18 @@
-use Rattle.router.proofs.Laws.{exist_next, exist_stop, exist_end}
-use mathlib.Core.Path.{refl, sym, ◌∙◌}
+-- `router::partitions_exist` meets its contract: the test of each row that the chunks are.
+use mathlib.Core.Path.{◌∙◌}
 use native.Mathlib.Omega.{arith}
-use lib.ListN.{drop}
+use lib.Dec.{leb}
+use lib.ListN.{get_or}
+use borrow.Author.Rules.{rules}
+use borrow.Author.Tests.{tests}
+use Rattle.std.proofs.lemmas.Iterator.Search.{all_from_yields_List}
+use Rattle.router.specs.Router.{route_rows}
+use Rattle.router.proofs.Laws.{exist_all}
+use Rattle.router.proofs.Chunks.{YieldsList-from_chunks_exact}
 use Rattle.router.proofs.partitions_exist.Goals as goal
-
-pub loop-left-init : goal.loop-left-init
-loop-left-init c = (omega arith, refl)
-
-pub returns-then-routes-at-gt-MAX_PARTITION : goal.returns-then-routes-at-gt-MAX_PARTITION
-returns-then-routes-at-gt-MAX_PARTITION c =
-    let l = c.loop-left in
-    sym (exist_stop c.args.routes.now l.at l.left c.loop-left-test.true c.if-routes-at-gt-MAX_PARTITION.true) ∙ l.invariant.1
-
-pub loop-left-preserved : goal.loop-left-preserved
-loop-left-preserved c =
-    let l = c.loop-left in
-    (omega arith, sym (exist_next c.args.routes.now l.at l.left c.loop-left-test.true c.if-routes-at-gt-MAX_PARTITION.false) ∙ l.invariant.1)
 
 pub returns : goal.returns
 returns c =
-    let l = c.loop-left in
-    sym (exist_end l.left (drop l.at c.args.routes.now) c.loop-left-test.false) ∙ l.invariant.1
+    let l = c.args.routes.now in
+    let rows = YieldsList-from_chunks_exact 34 l (omega arith) c.chunks_exact.ensures.size c.chunks_exact.ensures.rest in
+    all_from_yields_List (λ r. leb (get_or r 33 0) 7) _ _ _ c.all.ensures.ran rows (λ x b q k. search (rules, tests)) ∙ exist_all (route_rows l)

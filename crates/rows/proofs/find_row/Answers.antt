@@ -1,8 +1,7 @@
-use native.Mathlib.Nat.{div-zero, mul-div-le}
+use native.Mathlib.Nat.{div-zero}
 use Rattle.rows.specs.Rows.{rows, whole_rows, find_row}
-use Rattle.rows.proofs.Laws.{rows_left, later_none, find_here, find_next, find_end}
-use Prim.Native.Nat.{◌+◌, ◌-◌}
-use mathlib.Core.Path.{◌≡◌, sym, ◌∙◌}
+use Rattle.rows.proofs.Laws.{later_none, whole_none, find_here_in, find_next_in}
+use mathlib.Core.Path.{sym, ◌∙◌}
 use native.Mathlib.Omega.{arith}
 use lib.ListN.{length}
 use Rattle.rows.proofs.find_row.Goals as goal
@@ -11,68 +10,31 @@ pub returns-then-w-eq0 : goal.returns-then-w-eq0
 unfolding find_row rows
 returns-then-w-eq0 c = rw (c.if-w-eq0.true, div-zero (length c.args.bytes.now))
 
-pub loop-left-init : goal.loop-left-init
-loop-left-init c =
+pub loop-i-init : goal.loop-i-init
+loop-i-init c =
     let a = c.args in
-    let p = mul-div-le (length a.bytes.now) a.w in
-    (omega (arith, c.if-w-eq0.false), omega arith, omega arith, later_none (find_row a.key.now (whole_rows a.w a.bytes.now)))
-
-pub overflow_add-row : goal.overflow_add-row
-overflow_add-row c =
-    let s = c.loop-left in
-    let a = c.args in
-    let h = s.invariant in
-    let n = rows_left a.w s.left c.loop-left-test.true in
-    omega arith
-
-pub slice_bounds-row-end : goal.slice_bounds-row-end
-slice_bounds-row-end c =
-    let s = c.loop-left in
-    let a = c.args in
-    let h = s.invariant in
-    let n = rows_left a.w s.left c.loop-left-test.true in
-    omega arith
+    rw (c.into_iter-i-iterator.ensures.into_iter_gives, c.enumerate-i-items.ensures.source, c.enumerate-i-items.ensures.count, c.chunks_exact.ensures.rest)
+    (c.chunks_exact.ensures.size, later_none (find_row a.key.now (whole_rows a.w a.bytes.now)))
 
 pub returns-then-starts_with : goal.returns-then-starts_with
 returns-then-starts_with c =
-    let c-loop-test = c.loop-left-test in
-    let s = c.loop-left in
     let a = c.args in
-    let h = s.invariant in
-    let n = rows_left a.w s.left c-loop-test.true in
-    let d : s.at + a.w - s.at ≡ a.w = omega arith in
-    let e = rw d at c.starts_with.ensures in
-    sym (find_here a.key.now a.w s.at s.left s.i a.bytes.now c-loop-test.true (sym e ∙ c.if-starts_with.true)) ∙ h.3
+    let h = c.loop-i.invariant in
+    let e = c.in-Some.ensures.steps in
+    let t = sym c.starts_with.ensures ∙ c.if-starts_with.true in
+    rw e.1 (sym (find_here_in a.key.now a.w _ c.in-Some.row.now c.next.new.self.iter.rest.now _ (omega (arith, c.if-w-eq0.false)) e.0.1.0 (e.0.1.1 ∙ h.0) t) ∙ h.1)
 
-pub overflow_add-at : goal.overflow_add-at
-overflow_add-at c =
-    let s = c.loop-left in
+pub loop-i-preserved : goal.loop-i-preserved
+loop-i-preserved c =
     let a = c.args in
-    let h = s.invariant in
-    let n = rows_left a.w s.left c.loop-left-test.true in
-    omega arith
-
-pub overflow_add-i : goal.overflow_add-i
-overflow_add-i c =
-    let s = c.loop-left in
-    let a = c.args in
-    let h = s.invariant in
-    let n = rows_left a.w s.left c.loop-left-test.true in
-    omega arith
-
-pub loop-left-preserved : goal.loop-left-preserved
-loop-left-preserved c =
-    let c-loop-test = c.loop-left-test in
-    let s = c.loop-left in
-    let a = c.args in
-    let h = s.invariant in
-    let n = rows_left a.w s.left c-loop-test.true in
-    let d : s.at + a.w - s.at ≡ a.w = omega arith in
-    let e = rw d at c.starts_with.ensures in
-    (h.0, omega arith, omega arith, sym (find_next a.key.now a.w s.at s.left s.i a.bytes.now c-loop-test.true (sym e ∙ c.if-starts_with.false)) ∙ h.3)
+    let h = c.loop-i.invariant in
+    let e = c.in-Some.ensures.steps in
+    let t = sym c.starts_with.ensures ∙ c.if-starts_with.false in
+    (e.0.0 ∙ h.0, rw e.2 (sym (find_next_in a.key.now a.w _ c.in-Some.row.now c.next.new.self.iter.rest.now _ (omega (arith, c.if-w-eq0.false)) e.0.1.0 (e.0.1.1 ∙ h.0) t) ∙ h.1))
 
 pub returns : goal.returns
+unfolding find_row
 returns c =
-    let s = c.loop-left in
-    let a = c.args in
-    sym (find_end a.key.now a.w s.at s.left s.i a.bytes.now c.loop-left-test.false) ∙ s.invariant.3
+    let h = c.loop-i.invariant in
+    let e = c.in-None.ensures.steps in
+    rw (whole_none c.args.w c.loop-i.i-iterator.iter.rest.now (omega (arith, e.0.1.0, h.0))) at h.1

@@ -4,4 +4,4 @@ use Rattle.session_state.proofs.bad.Goals as goal
 
 pub returns : goal.returns
 unfolding bad_said
-returns c = printed_text (stop c.args.session) _ _ _ _ c.put_bad.ensures
+returns c = rw c.stopped.ensures (printed_text (stop c.args.session) _ _ _ _ (rw c.from.ensures at c.put_bad-at.ensures))

@@ -1,7 +1,8 @@
 use Rattle.session_state.proofs.Laws.{cache_called}
 use Rattle.session_state.proofs.cache_call.Goals as goal
 
-pub returns : goal.returns
-returns c =
-    let c-called = c.called-done in
-    cache_called c.args.session _ _ _ c-called.result _ _ _ c-called.ensures c.put_called.ensures
+pub returns-in-Ok : goal.returns-in-Ok
+returns-in-Ok c = cache_called c.args.session _ _ _ _ _ _ _ c.in-Ok.ensures c.put.ensures
+
+pub returns-in-Err : goal.returns-in-Err
+returns-in-Err c = cache_called c.args.session _ _ _ _ _ _ _ c.in-Err.ensures (rw c.from.ensures at c.put-in-Err.ensures)

@@ -21,4 +21,4 @@ returns-then-session c =
 pub returns : goal.returns
 returns c =
     let c-args = c.args in
-    printed_same _ _ _ _ (printed_text (stop c-args.session) _ _ _ _ c.put_end.ensures) (end_printed c-args.session c-args.cut c.if-cut.false c.if-session-lt2.false-raw c.if-session.false)
+    rw c.stopped.ensures (printed_same _ _ _ _ (printed_text (stop c-args.session) _ _ _ _ c.put_end-at.ensures) (end_printed c-args.session c-args.cut c.if-cut.false c.if-session-lt2.false-raw c.if-session.false))

@@ -8,5 +8,5 @@ returns-then-session c = printed_no_text _ _ _ (long_stopped _ _ c.args.session 
 pub returns : goal.returns
 returns c =
     let c-counted = c.record_counted-next in
-    let c-long-number = c.long_number-number in
-    printed_same _ _ _ _ c.bad.ensures (long_refused _ _ c.args.session c-counted.result _ _ c-long-number.result c.if-session.false c-counted.ensures c-long-number.ensures)
+    let c-long-number = c.long_refusal-refusal in
+    printed_same _ _ _ _ c.bad.ensures (long_refused _ _ c.args.session c-counted.result _ _ _ c.if-session.false c-counted.ensures c-long-number.ensures)

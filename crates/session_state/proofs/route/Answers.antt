@@ -1,23 +1,24 @@
 use Rattle.session_rules.proofs.Printed.{printed_same, printed_no_text}
 use Rattle.session_state.proofs.Laws.{listed_within, route_no, route_yes}
-use mathlib.Core.Path.{sym, ◌∙◌}
+use Rattle.refusals.proofs.Laws.{refused_is_not_done}
+use mathlib.Core.Path.{refl, sym}
 use native.Mathlib.Omega.{arith}
 use Rattle.session_state.proofs.route.Goals as goal
 
-pub returns-then-number-ne0 : goal.returns-then-number-ne0
-returns-then-number-ne0 c =
-    let c-args = c.args in
-    let c-listed = c.listed-number in
-    (printed_same _ _ _ _ c.bad.ensures (route_no c-args.session c-args.routes.now c-args.p.now c-listed.result c-listed.ensures.0 c.if-number-ne0.true), c-listed.ensures.1)
+pub returns-in-Ok : goal.returns-in-Ok
+returns-in-Ok c =
+    let a = c.args in
+    let e = c.in-Ok.ensures in
+    (printed_no_text _ _ _ (route_yes a.session a.routes.now a.p.now 0 e.0 refl), e.1)
 
-pub overflow_add-s : goal.overflow_add-s
-overflow_add-s c =
-    let c-args = c.args in
-    let h = listed_within c-args.session.routes_len c-args.routes.now c-args.p.now (sym c.listed-number.ensures.0 ∙ c.if-number-ne0.false) in
+pub returns-in-Err : goal.returns-in-Err
+returns-in-Err c =
+    let a = c.args in
+    let e = c.in-Err.ensures in
+    (printed_same _ _ _ _ c.bad.ensures (route_no a.session a.routes.now a.p.now _ e.0 (refused_is_not_done c.in-Err.refusal)), e.1)
+
+pub overflow_add-result : goal.overflow_add-result
+overflow_add-result c =
+    let a = c.args in
+    let h = listed_within a.session.routes_len a.routes.now a.p.now (sym c.in-Ok.ensures.0) in
     omega arith
-
-pub returns : goal.returns
-returns c =
-    let c-args = c.args in
-    let c-listed = c.listed-number in
-    (printed_no_text _ _ _ (route_yes c-args.session c-args.routes.now c-args.p.now c-listed.result c-listed.ensures.0 c.if-number-ne0.false), c-listed.ensures.1)

@@ -4,19 +4,19 @@ use native.Mathlib.Omega.{arith}
 use Rattle.rows.proofs.Laws.{pick_yes, pick_no}
 use Rattle.shard_ident.proofs.Laws.{tag_trailing, no_prefix, low_tag, split_masterchain, high_tag}
 use Rattle.shard_ident.proofs.check_shard.Goals as goal
+use Rattle.shard_ident.proofs.check_shard.Goals.{then-shard-eq0-via-then-shard-eq0, then-shard-eq0-via-else-shard-eq0+then-shard-lt3, then-shard-eq0-via-else-shard-eq0+else-shard-lt3+then-splits_masterchain}
 
-pub returns-then-prefix-eq0 : goal.returns-then-prefix-eq0
-returns-then-prefix-eq0 c = sym (pick_no _ _ _ (no_prefix c.args.shard c.if-prefix-eq0.true))
-
-pub returns-then-prefix-lt3 : goal.returns-then-prefix-lt3
-returns-then-prefix-lt3 c =
-    let a = c.args in
-    sym (pick_no _ _ _ (low_tag a.shard (omega (arith, tag_trailing a.shard.prefix))))
-
-pub returns-then-splits_masterchain : goal.returns-then-splits_masterchain
-returns-then-splits_masterchain c = sym (pick_no _ _ _ (split_masterchain _ (sym c.splits_masterchain.ensures ∙ c.if-splits_masterchain.true)))
+pub returns-then-shard-eq0 : goal.returns-then-shard-eq0
+returns-then-shard-eq0 c =
+    let s = c.args.shard in
+    elim c.then-shard-eq0.branch [
+      | then-shard-eq0-via-then-shard-eq0 w ↦ sym (pick_no _ _ _ (no_prefix s w.if-shard-eq0.true))
+      | then-shard-eq0-via-else-shard-eq0+then-shard-lt3 w ↦ sym (pick_no _ _ _ (low_tag s (omega (arith, tag_trailing s.prefix))))
+      | then-shard-eq0-via-else-shard-eq0+else-shard-lt3+then-splits_masterchain w ↦
+          sym (pick_no _ _ _ (split_masterchain s (sym w.splits_masterchain.ensures ∙ w.if-splits_masterchain.true)))
+    ]
 
 pub returns : goal.returns
 returns c =
-    let a = c.args in
-    sym (pick_yes _ _ _ (high_tag a.shard c.if-prefix-eq0.false (omega (arith, tag_trailing a.shard.prefix)) (sym c.splits_masterchain.ensures ∙ c.if-splits_masterchain.false)))
+    let s = c.args.shard in
+    sym (pick_yes _ _ _ (high_tag s c.if-shard-eq0.false (omega (arith, tag_trailing s.prefix)) (sym c.splits_masterchain.ensures ∙ c.if-splits_masterchain.false)))

@@ -7,6 +7,6 @@ use Rattle.streams.proofs.fill.Goals as goal
 pub loop-n-preserved : goal.loop-n-preserved
 loop-n-preserved g c =
     let before = c.loop-n.invariant in
-    let read = c.in-Bytes.ensures in
+    let read = rw c.in-Ok-Some.field-0-is at c.in-Ok-Some.ensures in
     let front = front_replaced _ _ _ _ c.read.new.bytes before.1 read.within.1 in
     (search rules, search rules, subst (Consumes _ _) front (Consumes-trans _ _ _ _ _ before.2 read.taken))

@@ -1,12 +1,10 @@
-use Rattle.cache_rules.specs.Rules.{max_anchors, max_anchor_messages}
+use Rattle.std.proofs.Common.{◌≡◌, ◌+◌, ◌-◌, ◌*◌, ◌≤◌}
+use Rattle.cache_rules.specs.Rules.{max_anchor_messages}
 use Rattle.anchors_cache.specs.Tables.{anchors}
 use Rattle.anchors_cache.specs.Calls.{sound_total}
-use Prim.Native.Nat.{◌+◌, ◌*◌, ◌≤◌}
-use mathlib.Core.Path.{◌≡◌}
 use Rattle.anchors_cache.proofs.questions.sound_total.Given as goal
 
-abbrev pub invariant-loop-left : goal.invariant-loop-left
-invariant-loop-left l = (l.at + l.left ≤ max_anchors) × (l.sum + max_anchor_messages * l.left ≤ max_anchor_messages * max_anchors) × (sound_total l.low l.sum (anchors l.at l.left l.tables) ≡ sound_total 0 0 (anchors l.first l.len l.tables))
-
-abbrev pub decreases-loop-left : goal.decreases-loop-left
-decreases-loop-left l = l.left
+abbrev pub invariant-loop-i : goal.invariant-loop-i
+invariant-loop-i l =
+    (sound_total l.low l.sum (anchors l.i (l.first + l.len - l.i) l.tables) ≡ sound_total 0 0 (anchors l.first l.len l.tables))
+    × (l.sum ≤ max_anchor_messages * (l.i - l.first))

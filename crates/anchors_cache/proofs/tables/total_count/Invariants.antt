@@ -1,11 +1,9 @@
-use Rattle.cache_rules.specs.Rules.{total, max_anchors}
+use Rattle.std.proofs.Common.{◌≡◌, ◌+◌, ◌-◌, ◌*◌, ◌≤◌}
+use Rattle.cache_rules.specs.Rules.{total}
 use Rattle.anchors_cache.specs.Tables.{anchors}
-use Prim.Native.Nat.{◌+◌, ◌*◌, ◌≤◌}
-use mathlib.Core.Path.{◌≡◌}
 use Rattle.anchors_cache.proofs.tables.total_count.Given as goal
 
-abbrev pub invariant-loop-left : goal.invariant-loop-left
-invariant-loop-left l = (l.at + l.left ≤ max_anchors) × (l.sum + total (anchors l.at l.left l.tables) ≡ total (anchors l.first l.len l.tables)) × (l.sum + 65535 * l.left ≤ 65535 * l.len)
-
-abbrev pub decreases-loop-left : goal.decreases-loop-left
-decreases-loop-left l = l.left
+abbrev pub invariant-loop-i : goal.invariant-loop-i
+invariant-loop-i l =
+    (l.sum + total (anchors l.i (l.first + l.len - l.i) l.tables) ≡ total (anchors l.first l.len l.tables))
+    × (l.sum ≤ 65535 * (l.i - l.first))

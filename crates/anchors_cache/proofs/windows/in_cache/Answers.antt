@@ -1,6 +1,6 @@
 use Rattle.rows.specs.declared.Appended.{Appended}
 use Rattle.anchors_cache.specs.Windows.{in_cache}
-use Rattle.anchors_cache.specs.Calls.{placed_at}
+use Rattle.rows.specs.Rows.{placed_at}
 use Rattle.anchors_cache.proofs.Laws.{placed_fits, append_fits}
 use Prim.Native.Nat.{◌*◌}
 use mathlib.Core.Path.{◌≡◌, refl, ap, ◌∙◌}

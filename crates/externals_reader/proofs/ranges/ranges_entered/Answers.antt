@@ -1,29 +1,14 @@
-use Rattle.reader_rules.specs.Each.{each}
-use Rattle.reader_rules.proofs.Each.{each_start, each_next, each_map}
+use Rattle.std.proofs.Common.{◌≡◌, length, take, map, sym, arith, rules}
+use Rattle.reader_rules.proofs.Each.{mapped_next, mapped_end, sets_mapped}
 use Rattle.reader_rules.specs.State.{no_range, max_ranges}
-use lib.Seq.{sets}
 use Rattle.reader_rules.specs.Rules.{range_entered}
-use borrow.Author.Rules.{rules}
-use Prim.Native.Nat.{ℕ}
-use mathlib.Core.Path.{◌≡◌, ap, ◌∙◌}
-use native.Mathlib.Omega.{arith}
-use lib.ListN.{length, get_or}
 use Rattle.externals_reader.proofs.ranges.ranges_entered.Goals as goal
 
-pub loop-i-init : goal.loop-i-init
-loop-i-init c = (search rules, each_start _ _)
-
-pub loop-i-preserved : goal.loop-i-preserved
-loop-i-preserved c =
-    let ranges = c.args.ranges in
-    let l = c.loop-i in
-    (omega arith, each_next (λ (j : ℕ). range_entered (get_or ranges j no_range)) _ l.i l.r _ l.invariant.1 c.range_entered.ensures)
+pub loop-range-preserved : goal.loop-range-preserved
+loop-range-preserved c = mapped_next range_entered _ _ _ c.loop-range.invariant no_range _ (omega arith) c.range_entered.ensures
 
 pub returns : goal.returns
 returns c =
-    let c-args = c.args in
-    let ranges = c-args.ranges in
-    let l = c.loop-i in
-    let n : length ranges ≡ max_ranges = search rules in
-    let e : l.i ≡ c-args.len = omega arith in
-    l.invariant.1 ∙ ap (sets ranges 0) (ap (λ (k : ℕ). each k (λ (j : ℕ). range_entered (get_or ranges j no_range))) e ∙ each_map range_entered no_range c-args.len ranges (omega arith))
+    let full : length c.args.ranges ≡ max_ranges = search rules in
+    let e : c.loop-range.range-items ≡ map range_entered (take c.args.len c.args.ranges) = mapped_end range_entered _ _ _ c.loop-range.invariant c.loop-range-test.false in
+    rw e (sym (sets_mapped range_entered c.args.len c.args.ranges (omega arith)))

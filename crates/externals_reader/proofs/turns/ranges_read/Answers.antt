@@ -1,100 +1,58 @@
-use Rattle.externals_reader.proofs.TurnLaws.{window_fits, turning_start, turning_next, turning_last, turning_length, turning_ready, turning_slot, left_some, next_room, next_ready, all_done, next_done, turn_length}
-use Rattle.reader_rules.specs.State.{no_range, max_ranges}
-use Rattle.externals_reader.specs.Calls.{window_read}
-use Rattle.reader_rules.specs.Rules.{nothing_read, read_of}
-use borrow.Author.Rules.{rules}
-use Prim.Native.Nat.{ℕ, ◌+◌, ◌<◌}
-use mathlib.Core.Path.{◌≡◌, refl, sym, ap, ◌∙◌}
-use native.Mathlib.Omega.{arith}
-use lib.ListN.{length, get_or, length-set}
-use borrow.Author.Tests.{not-true, not-false}
+use Rattle.std.proofs.Common.{rules, ℕ, ap, sym, ◌∙◌, get_or, length-set, refl, arith}
+use Rattle.refusals.proofs.Laws.{handed_on}
+use Rattle.externals_reader.proofs.TurnLaws.{turning_start, turning_next, turning_last, turning_refused, turn_wrote, wrote_told, next_room, all_done, all_refused, next_done, next_refused, window_fits}
+use Rattle.externals_reader.specs.Ready.{so_far_told}
+use Rattle.reader_rules.specs.State.{no_range}
 use Rattle.externals_reader.proofs.turns.ranges_read.Goals as goal
+use Rattle.externals_reader.proofs.turns.ranges_read.Goals.{else-loop-at-test, then-loop-at-test+then-s}
 
-pub loop-range-init : goal.loop-range-init
-loop-range-init c =
-    let c-args = c.args in
-    let n : length c-args.start ≡ max_ranges = search rules in
-    (n, rw c.nothing_read-s.ensures (turning_start (window_read c-args.tables.now c-args.area.now c-args.t c-args.routes.now c-args.x) (window_fits c-args.tables.now c-args.area.now c-args.t c-args.routes.now c-args.x) c-args.x c-args.write (read_of nothing_read c-args.start c-args.len) c-args.out.now c.requires))
+pub loop-at-init : goal.loop-at-init
+loop-at-init c = let t = turning_start _ (window_fits c.args.tables.now c.args.area.now c.args.t c.args.routes.now c.args.x) _ c.args.write _ _ c.requires in (search rules, rw c.nothing_read-s.ensures t)
 
-pub bounds-ranges-at : goal.bounds-ranges-at
-bounds-ranges-at c =
-    let c-loop = c.loop-range in
-    let c-args = c.args in
-    omega (arith, c-loop.invariant.0, turning_slot (window_read c-args.tables.now c-args.area.now c-args.t c-args.routes.now c-args.x) (window_fits c-args.tables.now c-args.area.now c-args.t c-args.routes.now c-args.x) c-args.x c-args.write (read_of nothing_read c-args.start c-args.len) c-args.out.now c.requires _ _ _ _ c-loop.invariant.1 (sym c.turns_over.ensures ∙ c.if-turns_over.false))
+pub returns-in_err-done : goal.returns-in_err-done
+returns-in_err-done c =
+    let a = c.args in
+    let l = c.loop-at in
+    let w = c.in_err-done.ensures.at l.ranges l.at a.start.len refl in
+    all_refused _ (window_fits a.tables.now a.area.now a.t a.routes.now a.x) _ _ _ _ c.requires _ _ (turning_refused _ _ _ _ _ _ _ _ _ l.invariant.1 c.loop-at-test.true c.if-s.false _ _ w) _ (handed_on _ _ c.from_residual.ensures)
 
-pub turn-done-requires : goal.turn-done-requires
-turn-done-requires c =
-    let c-args = c.args in
-    let c-loop = c.loop-range in
-    turning_ready (window_read c-args.tables.now c-args.area.now c-args.t c-args.routes.now c-args.x) (window_fits c-args.tables.now c-args.area.now c-args.t c-args.routes.now c-args.x) c-args.x c-args.write (read_of nothing_read c-args.start c-args.len) c-args.out.now c.requires c-loop.s c-loop.ranges c-args.len _ _ _ c-loop.invariant.1
-
-pub bounds-ranges-at-in-loop-range : goal.bounds-ranges-at-in-loop-range
-bounds-ranges-at-in-loop-range c =
-    let c-loop = c.loop-range in
-    let c-args = c.args in
-    omega (arith, c-loop.invariant.0, turning_slot (window_read c-args.tables.now c-args.area.now c-args.t c-args.routes.now c-args.x) (window_fits c-args.tables.now c-args.area.now c-args.t c-args.routes.now c-args.x) c-args.x c-args.write (read_of nothing_read c-args.start c-args.len) c-args.out.now c.requires _ _ _ _ c-loop.invariant.1 (sym c.turns_over.ensures ∙ c.if-turns_over.false))
-
-pub overflow_add-at : goal.overflow_add-at
-overflow_add-at c =
-    let c-loop = c.loop-range in
-    let c-args = c.args in
-    let h : c-loop.at + 1 < 18446744073709551616 = omega (arith, turning_slot (window_read c-args.tables.now c-args.area.now c-args.t c-args.routes.now c-args.x) (window_fits c-args.tables.now c-args.area.now c-args.t c-args.routes.now c-args.x) c-args.x c-args.write (read_of nothing_read c-args.start c-args.len) c-args.out.now c.requires _ _ _ _ c-loop.invariant.1 (sym c.turns_over.ensures ∙ c.if-turns_over.false)) in search (rules, h)
-
-pub overflow_sub-left : goal.overflow_sub-left
-overflow_sub-left c = let h : 0 < c.loop-range.left = left_some _ _ (sym c.turns_over.ensures ∙ c.if-turns_over.false) in search (rules, h)
-
-pub loop-range-smaller : goal.loop-range-smaller
-loop-range-smaller c = omega (arith, left_some c.loop-range.left _ (sym c.turns_over.ensures ∙ c.if-turns_over.false))
-
-pub loop-range-preserved : goal.loop-range-preserved
-loop-range-preserved c =
-    let c-loop = c.loop-range in
-    let c-args = c.args in
-    (simp length-set c-loop.invariant.0, turning_next (window_read c-args.tables.now c-args.area.now c-args.t c-args.routes.now c-args.x) (window_fits c-args.tables.now c-args.area.now c-args.t c-args.routes.now c-args.x) c-args.x c-args.write (read_of nothing_read c-args.start c-args.len) c-args.out.now _ _ _ _ c-loop.invariant.1 (sym c.turns_over.ensures ∙ c.if-turns_over.false) _ _ (c.turn-done.ensures.at c-loop.ranges c-loop.at c-args.len refl))
-
-pub bounds-ranges-place : goal.bounds-ranges-place
-bounds-ranges-place c = omega (arith, c.loop-range.invariant.0, c.requires.slots, c.last_place-place.ensures)
-
-pub shape_of-out-then-not-wants_next : goal.shape_of-out-then-not-wants_next
-shape_of-out-then-not-wants_next c =
-    let c-args = c.args in
-    turning_length (window_read c-args.tables.now c-args.area.now c-args.t c-args.routes.now c-args.x) (window_fits c-args.tables.now c-args.area.now c-args.t c-args.routes.now c-args.x) c-args.x c-args.write (read_of nothing_read c-args.start c-args.len) c-args.out.now _ _ _ _ c.loop-range.invariant.1
+pub loop-at-preserved : goal.loop-at-preserved
+loop-at-preserved c =
+    let l = c.loop-at in
+    (simp length-set l.invariant.0, turning_next _ _ _ _ _ _ _ _ _ l.invariant.1 c.loop-at-test.true c.if-s.false _ _ (turn_wrote _ _ _ _ _ _ _ _ _ (c.in_ok-done.ensures.at l.ranges l.at c.args.start.len refl)))
 
 pub returns-then-not-wants_next : goal.returns-then-not-wants_next
 returns-then-not-wants_next c =
-    let c-args = c.args in
-    let c-loop = c.loop-range in
-    (all_done (window_read c-args.tables.now c-args.area.now c-args.t c-args.routes.now c-args.x) (window_fits c-args.tables.now c-args.area.now c-args.t c-args.routes.now c-args.x) c-args.x c-args.write (read_of nothing_read c-args.start c-args.len) c-args.out.now c.requires c-loop.s c-loop.ranges c-args.len _ (turning_last (window_read c-args.tables.now c-args.area.now c-args.t c-args.routes.now c-args.x) (window_fits c-args.tables.now c-args.area.now c-args.t c-args.routes.now c-args.x) c-args.x c-args.write (read_of nothing_read c-args.start c-args.len) c-args.out.now _ _ _ _ c-loop.invariant.1 (sym c.turns_over.ensures ∙ c.if-turns_over.true)) (sym (c.wants_next.ensures c-loop.ranges (ap (λ (k : ℕ). get_or c-loop.ranges k no_range) (sym c.last_place-place.ensures))) ∙ not-true _ c.if-not-wants_next.true-raw))
+    let a = c.args in
+    let l = c.loop-at in
+    let fits = window_fits a.tables.now a.area.now a.t a.routes.now a.x in
+    let whole = turning_last _ _ _ _ _ _ _ _ _ l.invariant.1 (λ p. elim c.loop-at-test.branch [ else-loop-at-test w ↦ absurd (omega arith) | then-loop-at-test+then-s w ↦ w.if-s.true ]) in
+    let last = ap (λ (k : ℕ). get_or l.ranges k no_range) (sym c.last_place.ensures) in
+    wrote_told _ _ _ _ _ (all_done _ fits _ _ _ _ c.requires (so_far_told l.s) l.ranges a.start.len _ whole (sym (c.wants_next.ensures l.ranges last) ∙ c.if-not-wants_next.true))
 
-pub turn-more-requires : goal.turn-more-requires
-turn-more-requires c =
-    let c-args = c.args in
-    let c-loop = c.loop-range in
-    next_ready (window_read c-args.tables.now c-args.area.now c-args.t c-args.routes.now c-args.x) (window_fits c-args.tables.now c-args.area.now c-args.t c-args.routes.now c-args.x) c-args.x c-args.write (read_of nothing_read c-args.start c-args.len) c-args.out.now c.requires c-loop.s c-loop.ranges c-args.len _ (turning_last (window_read c-args.tables.now c-args.area.now c-args.t c-args.routes.now c-args.x) (window_fits c-args.tables.now c-args.area.now c-args.t c-args.routes.now c-args.x) c-args.x c-args.write (read_of nothing_read c-args.start c-args.len) c-args.out.now _ _ _ _ c-loop.invariant.1 (sym c.turns_over.ensures ∙ c.if-turns_over.true))
-
-pub offset_bounds-ranges-len : goal.offset_bounds-ranges-len
-offset_bounds-ranges-len c =
-    let c-args = c.args in
-    let c-loop = c.loop-range in
-    let h : c-args.len < max_ranges = next_room (window_read c-args.tables.now c-args.area.now c-args.t c-args.routes.now c-args.x) (window_fits c-args.tables.now c-args.area.now c-args.t c-args.routes.now c-args.x) c-args.x c-args.write (read_of nothing_read c-args.start c-args.len) c-args.out.now c.requires c-loop.s c-loop.ranges c-args.len _ (turning_last (window_read c-args.tables.now c-args.area.now c-args.t c-args.routes.now c-args.x) (window_fits c-args.tables.now c-args.area.now c-args.t c-args.routes.now c-args.x) c-args.x c-args.write (read_of nothing_read c-args.start c-args.len) c-args.out.now _ _ _ _ c-loop.invariant.1 (sym c.turns_over.ensures ∙ c.if-turns_over.true)) (sym (c.wants_next.ensures c-loop.ranges (ap (λ (k : ℕ). get_or c-loop.ranges k no_range) (sym c.last_place-place.ensures))) ∙ not-false _ c.if-not-wants_next.false-raw) in search (rules, h)
+pub returns-in_err-more : goal.returns-in_err-more
+returns-in_err-more c =
+    let a = c.args in
+    let l = c.loop-at in
+    let fits = window_fits a.tables.now a.area.now a.t a.routes.now a.x in
+    let whole = turning_last _ _ _ _ _ _ _ _ _ l.invariant.1 (λ p. elim c.loop-at-test.branch [ else-loop-at-test w ↦ absurd (omega arith) | then-loop-at-test+then-s w ↦ w.if-s.true ]) in
+    let last = ap (λ (k : ℕ). get_or l.ranges k no_range) (sym c.last_place.ensures) in
+    next_refused _ fits _ _ _ _ c.requires (so_far_told l.s) l.ranges a.start.len _ whole (sym (c.wants_next.ensures l.ranges last) ∙ c.if-not-wants_next.false) l.invariant.0 _ (c.appended_range-fresh.ensures l.ranges last) _ _ c.in_err-more.ensures _ (handed_on _ _ c.from_residual-in_err-more.ensures)
 
 pub bounds-ranges-len : goal.bounds-ranges-len
 bounds-ranges-len c =
-    let c-loop = c.loop-range in
-    let c-args = c.args in
-    omega (arith, c-loop.invariant.0, next_room (window_read c-args.tables.now c-args.area.now c-args.t c-args.routes.now c-args.x) (window_fits c-args.tables.now c-args.area.now c-args.t c-args.routes.now c-args.x) c-args.x c-args.write (read_of nothing_read c-args.start c-args.len) c-args.out.now c.requires c-loop.s c-loop.ranges c-args.len _ (turning_last (window_read c-args.tables.now c-args.area.now c-args.t c-args.routes.now c-args.x) (window_fits c-args.tables.now c-args.area.now c-args.t c-args.routes.now c-args.x) c-args.x c-args.write (read_of nothing_read c-args.start c-args.len) c-args.out.now _ _ _ _ c-loop.invariant.1 (sym c.turns_over.ensures ∙ c.if-turns_over.true)) (sym (c.wants_next.ensures c-loop.ranges (ap (λ (k : ℕ). get_or c-loop.ranges k no_range) (sym c.last_place-place.ensures))) ∙ not-false _ c.if-not-wants_next.false-raw))
-
-pub overflow_add-result : goal.overflow_add-result
-overflow_add-result c = let h : c.args.len + 1 < 18446744073709551616 = omega (arith, c.requires.slots) in search (rules, h)
-
-pub shape_of-out : goal.shape_of-out
-shape_of-out c =
-    let c-args = c.args in
-    turn_length _ _ _ _ _ _ _ _ c.turn-more.ensures ∙ turning_length (window_read c-args.tables.now c-args.area.now c-args.t c-args.routes.now c-args.x) (window_fits c-args.tables.now c-args.area.now c-args.t c-args.routes.now c-args.x) c-args.x c-args.write (read_of nothing_read c-args.start c-args.len) c-args.out.now _ _ _ _ c.loop-range.invariant.1
+    let a = c.args in
+    let l = c.loop-at in
+    let fits = window_fits a.tables.now a.area.now a.t a.routes.now a.x in
+    let whole = turning_last _ _ _ _ _ _ _ _ _ l.invariant.1 (λ p. elim c.loop-at-test.branch [ else-loop-at-test w ↦ absurd (omega arith) | then-loop-at-test+then-s w ↦ w.if-s.true ]) in
+    let last = ap (λ (k : ℕ). get_or l.ranges k no_range) (sym c.last_place.ensures) in
+    next_room _ fits _ _ _ _ c.requires (so_far_told l.s) l.ranges a.start.len _ whole (sym (c.wants_next.ensures l.ranges last) ∙ c.if-not-wants_next.false)
 
 pub returns : goal.returns
 returns c =
-    let c-args = c.args in
-    let c-loop = c.loop-range in
-    let c-last-place = c.last_place-place in
-    (next_done (window_read c-args.tables.now c-args.area.now c-args.t c-args.routes.now c-args.x) (window_fits c-args.tables.now c-args.area.now c-args.t c-args.routes.now c-args.x) c-args.x c-args.write (read_of nothing_read c-args.start c-args.len) c-args.out.now c.requires c-loop.s c-loop.ranges c-args.len _ (turning_last (window_read c-args.tables.now c-args.area.now c-args.t c-args.routes.now c-args.x) (window_fits c-args.tables.now c-args.area.now c-args.t c-args.routes.now c-args.x) c-args.x c-args.write (read_of nothing_read c-args.start c-args.len) c-args.out.now _ _ _ _ c-loop.invariant.1 (sym c.turns_over.ensures ∙ c.if-turns_over.true)) (sym (c.wants_next.ensures c-loop.ranges (ap (λ (k : ℕ). get_or c-loop.ranges k no_range) (sym c-last-place.ensures))) ∙ not-false _ c.if-not-wants_next.false-raw) c-loop.invariant.0 _ (c.appended_range-fresh.ensures c-loop.ranges (ap (λ (k : ℕ). get_or c-loop.ranges k no_range) (sym c-last-place.ensures))) _ _ c.turn-more.ensures)
+    let a = c.args in
+    let l = c.loop-at in
+    let fits = window_fits a.tables.now a.area.now a.t a.routes.now a.x in
+    let whole = turning_last _ _ _ _ _ _ _ _ _ l.invariant.1 (λ p. elim c.loop-at-test.branch [ else-loop-at-test w ↦ absurd (omega arith) | then-loop-at-test+then-s w ↦ w.if-s.true ]) in
+    let last = ap (λ (k : ℕ). get_or l.ranges k no_range) (sym c.last_place.ensures) in
+    wrote_told _ _ _ _ _ (next_done _ fits _ _ _ _ c.requires (so_far_told l.s) l.ranges a.start.len _ whole (sym (c.wants_next.ensures l.ranges last) ∙ c.if-not-wants_next.false) l.invariant.0 _ (c.appended_range-fresh.ensures l.ranges last) _ _ c.in_ok-more.ensures)

@@ -2,10 +2,7 @@ use Rattle.text.specs.Shown.{Puts}
 use Rattle.std.proofs.Common.{◌≡◌, length}
 use Rattle.probe_cache.proofs.shown.put_history.Given as goal
 
-abbrev pub invariant-loop-left : goal.invariant-loop-left
-invariant-loop-left l =
+abbrev pub invariant-loop-row : goal.invariant-loop-row
+invariant-loop-row l =
     (length l.out ≡ length l.initial.out)
     × Puts (record { at = l.at; bytes = l.initial.out }) (record { at = l.to; bytes = l.out })
-
-abbrev pub decreases-loop-left : goal.decreases-loop-left
-decreases-loop-left l = l.left

@@ -3,6 +3,6 @@ use Rattle.probe_reader.proofs.read.put_all.Goals as goal
 
 pub returns : goal.returns
 returns c =
-    let free = c.put_free-a.ensures in
+    let free = puts_on _ _ _ (_, c.put-named.ensures) (_, c.put_free-a.ensures) in
     let entries = c.put_entries-b.ensures in
-    puts_on _ _ _ (puts_on _ _ _ (puts_on _ _ _ (_, free) entries) c.put_counts-c.ensures) (_, c.put_ranges.ensures)
+    puts_on _ _ _ (puts_on _ _ _ (puts_on _ _ _ free entries) c.put_counts-c.ensures) (_, c.put_ranges.ensures)

@@ -1,10 +1,6 @@
-use Rattle.text.proofs.Laws.{puts_nothing, puts_on}
-use borrow.Author.Rules.{rules}
-use mathlib.Core.Path.{refl}
+use Rattle.text.proofs.Laws.{puts_on}
+use Rattle.std.proofs.Common.{rules}
 use Rattle.probe_reader.proofs.shown.put_partitions.Goals as goal
-
-pub loop-i-init : goal.loop-i-init
-loop-i-init c = (refl, puts_nothing _)
 
 pub loop-i-preserved : goal.loop-i-preserved
 loop-i-preserved c = (search rules, puts_on _ _ _ c.loop-i.invariant.1 c.put_partition-to.ensures)

@@ -1,132 +1,67 @@
 -- Each return is one case of a look at an anchor; the rest of its messages is a part of the area within its bounds.
-use lib.ListN.{length-take, length-drop}
-use Rattle.range_rules.specs.Rules.{looked}
-use Rattle.range_rules.proofs.Counts.{weaker, within_up}
-use Rattle.range_reader.proofs.AnchorLaws.{anchor_popped, anchor_expired, anchor_past, anchor_walked, within_looked, looked_reached}
 use Prim.Native.Nat.{◌-◌}
-use mathlib.Core.Path.{sym, ◌∙◌}
+use mathlib.Core.Path.{refl, sym, subst, ◌∙◌}
 use native.Mathlib.Omega.{arith}
 use Rattle.cache_rules.specs.Rules.{max_messages}
+use Rattle.refusals.proofs.Laws.{handed_on}
+use Rattle.range_rules.specs.Rules.{expired, finished}
+use Rattle.range_rules.specs.Bounds.{Within}
+use Rattle.range_rules.proofs.Counts.{weaker, within_up}
+use Rattle.range_reader.specs.declared.RangeRead.{RangeRead}
+use Rattle.range_reader.specs.Ready.{Eight, walk_told, range_told, range_tells, left_by}
+use Rattle.range_reader.proofs.Eight.{eight_looked}
+use Rattle.range_reader.proofs.AnchorLaws.{rest_count, anchor_popped, anchor_expired, anchor_past, anchor_walked, anchor_refused, within_looked, looked_reached}
+use Rattle.range_reader.proofs.anchors.anchor_read.Goals.{then-offset-a+in_ok-messages_read, else-offset-a}
 use Rattle.range_reader.proofs.anchors.anchor_read.Goals as goal
 
-pub popped-requires : goal.popped-requires
-popped-requires c = c.requires.pops
+pub returns-then-a-x : goal.returns-then-a-x
+returns-then-a-x c =
+    let a = c.args in
+    anchor_popped a.x a.routes.now a.area.now a.a.id a.a.chain_time a.a.place a.a.count (range_told a.r.now) a.write a.out.now _ _ c.if-a-x.true refl
 
-pub returns-then-id-entry : goal.returns-then-id-entry
-returns-then-id-entry c =
-    let c-args = c.args in
-    anchor_popped c-args.x c-args.routes.now c-args.area.now c-args.a.id c-args.a.chain_time c-args.a.place c-args.a.count c-args.r c-args.write c-args.out.now _ _ c.if-id-entry.true c.popped.ensures
-
-pub overflow_add-start : goal.overflow_add-start
-overflow_add-start c =
-    let c-pre = c.requires in
-    let p = c-pre.placed in
-    let f = c.first_unread-from.ensures.1 in
-    let n = c-pre.few.few in
-    (let g = c.well_formed.1.1.0 in omega arith)
-
-pub overflow_mul-start : goal.overflow_mul-start
-overflow_mul-start c =
-    let c-pre = c.requires in
-    let p = c-pre.placed in
-    let f = c.first_unread-from.ensures.1 in
-    let n = c-pre.few.few in
-    (let g = c.well_formed.1.1.0 in omega arith)
-
-pub overflow_add-end : goal.overflow_add-end
-overflow_add-end c =
-    let c-pre = c.requires in
-    let p = c-pre.placed in
-    let f = c.first_unread-from.ensures.1 in
-    let n = c-pre.few.few in
-    (let g = c.well_formed.1.1.0 in omega arith)
-
-pub overflow_mul-end : goal.overflow_mul-end
-overflow_mul-end c =
-    let c-pre = c.requires in
-    let p = c-pre.placed in
-    let f = c.first_unread-from.ensures.1 in
-    let n = c-pre.few.few in
-    (let g = c.well_formed.1.1.0 in omega arith)
-
-pub slice_bounds-rest-count : goal.slice_bounds-rest-count
-slice_bounds-rest-count c =
-    let c-pre = c.requires in
-    let p = c-pre.placed in
-    let f = c.first_unread-from.ensures.1 in
-    let n = c-pre.few.few in
-    omega arith
-
-pub slice_bounds-rest-start : goal.slice_bounds-rest-start
-slice_bounds-rest-start c =
-    let c-pre = c.requires in
-    let p = c-pre.placed in
-    let f = c.first_unread-from.ensures.1 in
-    let n = c-pre.few.few in
-    omega arith
-
-pub slice_bounds-rest-end : goal.slice_bounds-rest-end
-slice_bounds-rest-end c =
-    let c-pre = c.requires in
-    let p = c-pre.placed in
-    let f = c.first_unread-from.ensures.1 in
-    let n = c-pre.few.few in
-    omega arith
-
-pub overflow_sub-n : goal.overflow_sub-n
-overflow_sub-n c =
-    let c-pre = c.requires in
-    let p = c-pre.placed in
-    let f = c.first_unread-from.ensures.1 in
-    let n = c-pre.few.few in
-    omega arith
-
-pub count_expired-all-requires : goal.count_expired-all-requires
-count_expired-all-requires c =
-    let c-pre = c.requires in
-    let c-first-unread = c.first_unread-from in
-    let c-args = c.args in
-    let p = c-pre.placed in
-    let f = c-first-unread.ensures.1 in
-    let n = c-pre.few.few in
-    (c-pre.fixed.shard_sound, c-pre.fixed.routes_sound, simp (length-take, length-drop) (omega arith), omega arith, rw c.looked-w.ensures (weaker (looked c-args.x c-args.a.id c-args.r.walk).counts.expired (max_messages - c-args.a.count) (max_messages - (c-args.a.count - c-first-unread.result)) (omega arith) (within_looked c-args.x (max_messages - c-args.a.count) c-args.a.id c-args.r.walk c-pre.few.within).expired))
-
-pub expired-requires : goal.expired-requires
-expired-requires c = c.requires.pops
+pub count_expired-requires : goal.count_expired-requires
+count_expired-requires c =
+    let a = c.args in
+    let r = c.requires in
+    let f = c.first_unread-from in
+    let n = rest_count a.area.now a.a.place a.a.count _ f.result f.ensures.0 f.ensures.1 r.placed in
+    (r.fixed.shard_sound, r.fixed.routes_sound, omega (arith, n, r.few.few), rw n (weaker _ (max_messages - a.a.count) (max_messages - (a.a.count - f.result)) (omega arith) (subst (Within a.x (max_messages - a.a.count)) (sym c.look.ensures) (within_looked a.x (max_messages - a.a.count) a.a.id (walk_told a.r.now.walk) r.few.within)).expired))
 
 pub returns-then-is_expired : goal.returns-then-is_expired
+unfolding expired
 returns-then-is_expired c =
-    let c-args = c.args in
-    let c-looked = c.looked-w in
-    let c-first-unread = c.first_unread-from in
-    anchor_expired c-args.x c-args.routes.now c-args.area.now c-args.a.id c-args.a.chain_time c-args.a.place c-args.a.count c-args.r c-args.write c-args.out.now c-looked.result c-first-unread.result c.if-id-entry.false c-looked.ensures c-first-unread.ensures.0 c-first-unread.ensures.1 _ _ _ (sym c.is_expired.ensures ∙ c.if-is_expired.true) c.count_expired-all.ensures c.expired.ensures
+    let a = c.args in
+    let w = c.look in
+    let f = c.first_unread-from in
+    anchor_expired a.x a.routes.now a.area.now a.a.id a.a.chain_time a.a.place a.a.count (range_told a.r.now) a.write a.out.now (walk_told w.new.w) f.result c.if-a-x.false w.ensures f.ensures.0 f.ensures.1 c.requires.placed _ _ _ (sym c.is_expired.ensures ∙ c.if-is_expired.true) c.count_expired.ensures c.expire.ensures
 
-pub finished-requires : goal.finished-requires
-finished-requires c = c.requires.pops
+pub messages_read-requires : goal.messages_read-requires
+messages_read-requires c =
+    let a = c.args in
+    let r = c.requires in
+    let f = c.first_unread-from in
+    let w = c.look in
+    let n = rest_count a.area.now a.a.place a.a.count _ f.result f.ensures.0 f.ensures.1 r.placed in
+    (r.fixed, omega (arith, n, r.few.few, f.ensures.2 c.if-offset-a.true), rw n (record { few = omega (arith, r.few.few); within = within_up a.x (max_messages - a.a.count) _ (subst (Within a.x (max_messages - a.a.count)) (sym w.ensures) (within_looked a.x _ a.a.id (walk_told a.r.now.walk) r.few.within)) _ (omega arith) }), subst Eight (sym w.ensures) (eight_looked (walk_told a.r.now.walk) r.eight a.x a.a.id), looked_reached a.x a.a.id (walk_told a.r.now.walk) (walk_told w.new.w) w.ensures)
 
-pub returns-then-count-key : goal.returns-then-count-key
-returns-then-count-key c =
-    let c-args = c.args in
-    let c-looked = c.looked-w in
-    let c-first-unread = c.first_unread-from in
-    anchor_past c-args.x c-args.routes.now c-args.area.now c-args.a.id c-args.a.chain_time c-args.a.place c-args.a.count c-args.r c-args.write c-args.out.now c-looked.result c-first-unread.result c.if-id-entry.false c-looked.ensures c-first-unread.ensures.0 c-first-unread.ensures.1 (sym c.is_expired.ensures ∙ c.if-is_expired.false) _ c.if-count-key.true c.finished.ensures
-
-pub messages_read-v-requires : goal.messages_read-v-requires
-messages_read-v-requires c =
-    let c-pre = c.requires in
-    let c-first-unread = c.first_unread-from in
-    let c-args = c.args in
-    let p = c-pre.placed in
-    let f = c-first-unread.ensures.1 in
-    let n = c-pre.few.few in
-    (c-pre.fixed, simp (length-take, length-drop) (omega arith), omega (arith, c-first-unread.ensures.2 c.if-count-key.false), record { few = omega arith; within = rw c.looked-w.ensures (within_up c-args.x (max_messages - c-args.a.count) _ (within_looked c-args.x _ c-args.a.id c-args.r.walk c-pre.few.within) _ (omega arith)) }, looked_reached c-args.x c-args.a.id c-args.r.walk _ c.looked-w.ensures)
-
-pub finished-requires-2 : goal.finished-requires-2
-finished-requires-2 c = c.requires.pops
+pub returns-in_err-messages_read : goal.returns-in_err-messages_read
+returns-in_err-messages_read c =
+    let a = c.args in
+    let w = c.look in
+    let f = c.first_unread-from in
+    rw (handed_on _ _ c.from_residual.ensures)
+    (anchor_refused a.x a.routes.now a.area.now a.a.id a.a.chain_time a.a.place a.a.count (range_told a.r.now) a.write a.out.now (walk_told w.new.w) f.result c.if-a-x.false w.ensures f.ensures.0 f.ensures.1 c.requires.placed (sym c.is_expired.ensures ∙ c.if-is_expired.false) _ _ c.in_err-messages_read.ensures)
 
 pub returns : goal.returns
+unfolding finished
 returns c =
-    let c-args = c.args in
-    let c-looked = c.looked-w in
-    let c-first-unread = c.first_unread-from in
-    anchor_walked c-args.x c-args.routes.now c-args.area.now c-args.a.id c-args.a.chain_time c-args.a.place c-args.a.count c-args.r c-args.write c-args.out.now c-looked.result c-first-unread.result c.if-id-entry.false c-looked.ensures c-first-unread.ensures.0 c-first-unread.ensures.1 (sym c.is_expired.ensures ∙ c.if-is_expired.false) _ _ _ c.messages_read-v.ensures c.finished-2.ensures
+    let a = c.args in
+    let w = c.look in
+    let f = c.first_unread-from in
+    let e = sym c.is_expired.ensures ∙ c.if-is_expired.false in
+    let q = left_by c.finish.result c.finish.new.r in
+    let says = λ (s : RangeRead). range_tells q (finished a.x a.a.chain_time a.a.count (walk_told s.walk) (range_told s)) in
+    elim c.if-offset-a.branch [
+      | then-offset-a+in_ok-messages_read v ↦ rw v.out-is (anchor_walked a.x a.routes.now a.area.now a.a.id a.a.chain_time a.a.place a.a.count (range_told a.r.now) a.write a.out.now (walk_told w.new.w) f.result c.if-a-x.false w.ensures f.ensures.0 f.ensures.1 c.requires.placed e _ _ q v.in_ok-messages_read.ensures (subst says v.r-is c.finish.ensures))
+      | else-offset-a v ↦ rw v.out-is (anchor_past a.x a.routes.now a.area.now a.a.id a.a.chain_time a.a.place a.a.count (range_told a.r.now) a.write a.out.now (walk_told w.new.w) f.result c.if-a-x.false w.ensures f.ensures.0 f.ensures.1 c.requires.placed e q v.if-offset-a.false (subst says v.r-is c.finish.ensures))
+    ]

@@ -1,6 +1,7 @@
 -- The invariant says that what is left to read comes to the whole read; each look that does not end it popped one
 -- anchor.
 use Rattle.range_rules.specs.Rules.{anchors_read, silent}
+use Rattle.range_reader.specs.Ready.{range_told}
 use Rattle.range_reader.proofs.AnchorLaws.{RangeTurn}
 use Rattle.anchors_cache.specs.Tables.{with_messages, anchors}
 use Prim.Native.Nat.{◌*◌}
@@ -9,7 +10,7 @@ use Rattle.range_reader.proofs.anchors.anchors_read.Given as goal
 
 abbrev pub invariant-loop-a : goal.invariant-loop-a
 invariant-loop-a l =
-    RangeTurn l.x l.routes l.tables l.area l.write l.initial.out l.initial.r.walk.buffers.used (anchors_read l.x l.routes (with_messages (drop (33 * l.initial.place) l.area) (anchors l.initial.at l.initial.left l.tables)) (silent l.initial.r)) l.out l.r l.at l.left l.place
+    RangeTurn l.x l.routes l.tables l.area l.write l.initial.out l.initial.r.walk.buffers.used (anchors_read l.x l.routes (with_messages (drop (33 * l.initial.place) l.area) (anchors l.initial.at l.initial.left l.tables)) (silent (range_told l.initial.r))) l.out (range_told l.r) l.at l.left l.place
 
 abbrev pub decreases-loop-a : goal.decreases-loop-a
 decreases-loop-a l = l.left

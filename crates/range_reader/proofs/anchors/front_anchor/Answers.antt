@@ -17,4 +17,4 @@ pub returns : goal.returns
 unfolding row_at
 returns c =
     let c-args = c.args in
-    rw (anchors_cons c-args.at c-args.left c-args.tables.now (omega arith), c.cached_row-a.ensures, lt-ltb c-args.at max_anchors (omega arith), le-leb tables_bytes (length c-args.tables.now) (omega arith))
+    rw (anchors_cons c-args.at c-args.left c-args.tables.now (omega arith), c.cached_row.ensures, lt-ltb c-args.at max_anchors (omega arith), le-leb tables_bytes (length c-args.tables.now) (omega arith))

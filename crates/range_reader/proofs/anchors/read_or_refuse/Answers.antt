@@ -1,57 +1,40 @@
 -- Each run comes to the same outcome; the last one writes it.
+use Prim.Native.Nat.{◌*◌}
+use mathlib.Core.Path.{refl, sym, ◌∙◌}
+use lib.ListN.{drop}
+use Rattle.std.specs.Prelude.{Ok, Err}
 use Rattle.rows.proofs.Laws.{and_true}
+use Rattle.refusals.proofs.Laws.{handed_on}
 use Rattle.anchors_cache.specs.Tables.{anchors_of}
+use Rattle.range_reader.specs.Ready.{range_told}
 use Rattle.range_reader.proofs.AnchorLaws.{refused_run, checked_run, written_run, done_run}
 use Rattle.range_reader.proofs.RefusalLaws.{no_refusal_on_the_window}
-use Prim.Native.Nat.{◌*◌}
-use mathlib.Core.Path.{sym, ◌∙◌}
-use lib.ListN.{drop}
-use borrow.Author.Tests.{not-true, not-false}
 use Rattle.range_reader.proofs.anchors.read_or_refuse.Goals as goal
 
-pub writes_at_once-requires : goal.writes_at_once-requires
-writes_at_once-requires c =
-    let c-pre = c.requires in
-    (c-pre.window, c-pre.tall, c-pre.few.few, c-pre.fixed.routes_sound)
-
-pub anchors_read-requires : goal.anchors_read-requires
-anchors_read-requires c = c.requires
+pub returns-in_err-anchors_read : goal.returns-in_err-anchors_read
+returns-in_err-anchors_read c =
+    let a = c.args in
+    let t = and_true a.write _ (sym c.writes_at_once.ensures ∙ c.if-writes_at_once.true) in
+    rw (handed_on _ _ c.from_residual.ensures)
+    (written_run a.write a.out.now a.begin.walk.buffers.used _ (no_refusal_on_the_window a.x a.routes.now (drop (33 * a.c.base) a.area.now) (anchors_of a.tables.now a.c) (range_told a.begin) refl c.requires.used t.1) _ (Err _) t.0 c.in_err-anchors_read.ensures)
 
 pub returns-then-writes_at_once : goal.returns-then-writes_at_once
 returns-then-writes_at_once c =
-    let c-args = c.args in
-    let c-pre = c.requires in
-    let a = and_true c-args.write _ (sym c.writes_at_once.ensures ∙ c.if-writes_at_once.true) in
-    written_run c-args.write c-args.out.now c-args.begin.walk.buffers.used _ (no_refusal_on_the_window c-args.x c-args.routes.now (drop (33 * c-args.c.base) c-args.area.now) (anchors_of c-args.tables.now c-args.c) c-args.begin c-pre.number c-pre.used a.1) _ _ a.0 c.anchors_read.ensures
+    let a = c.args in
+    let t = and_true a.write _ (sym c.writes_at_once.ensures ∙ c.if-writes_at_once.true) in
+    written_run a.write a.out.now a.begin.walk.buffers.used _ (no_refusal_on_the_window a.x a.routes.now (drop (33 * a.c.base) a.area.now) (anchors_of a.tables.now a.c) (range_told a.begin) refl c.requires.used t.1) _ (Ok _) t.0 c.in_ok-anchors_read.ensures
 
-pub anchors_read-dry-requires : goal.anchors_read-dry-requires
-anchors_read-dry-requires c = c.requires
+pub returns-in_err-anchors_read-2 : goal.returns-in_err-anchors_read-2
+returns-in_err-anchors_read-2 c =
+    let a = c.args in
+    rw (handed_on _ _ c.from_residual-in_err-anchors_read-2.ensures) (refused_run a.write a.out.now a.begin.walk.buffers.used _ _ _ c.in_err-anchors_read-2.ensures)
 
-pub returns-then-w-ne0 : goal.returns-then-w-ne0
-returns-then-w-ne0 c =
-    let c-args = c.args in
-    refused_run c-args.write c-args.out.now c-args.begin.walk.buffers.used _ _ _ c.anchors_read-dry.ensures c.if-w-ne0.true
+pub returns-in_ok-anchors_read-3 : goal.returns-in_ok-anchors_read-3
+returns-in_ok-anchors_read-3 c =
+    let a = c.args in
+    done_run a.write a.out.now a.begin.walk.buffers.used _ _ _ c.in_ok-anchors_read-2.ensures _ (Ok _) c.if-write.true c.in_ok-anchors_read-3.ensures
 
-pub returns-then-not-write : goal.returns-then-not-write
-returns-then-not-write c =
-    let c-args = c.args in
-    checked_run c-args.write c-args.out.now c-args.begin.walk.buffers.used _ _ _ c.anchors_read-dry.ensures c.if-w-ne0.false (not-true c-args.write c.if-not-write.true-raw)
-
-pub anchors_read-requires-2 : goal.anchors_read-requires-2
-anchors_read-requires-2 c =
-    let c-pre = c.requires in
-    record {
-      fixed = record { shard_sound = c-pre.fixed.shard_sound; routes_sound = c-pre.fixed.routes_sound; room = c.anchors_read-dry.auto.out ∙ c-pre.fixed.room };
-      tall = c-pre.tall;
-      window = c-pre.window;
-      placed = c-pre.placed;
-      few = c-pre.few;
-      pops = c-pre.pops;
-      number = c-pre.number;
-      used = c-pre.used;
-    }
-
-pub returns : goal.returns
-returns c =
-    let c-args = c.args in
-    done_run c-args.write c-args.out.now c-args.begin.walk.buffers.used _ _ _ c.anchors_read-dry.ensures c.if-w-ne0.false _ _ (not-false c-args.write c.if-not-write.false-raw) c.anchors_read-2.ensures
+pub returns-else-write : goal.returns-else-write
+returns-else-write c =
+    let a = c.args in
+    checked_run a.write a.out.now a.begin.walk.buffers.used _ _ _ c.in_ok-anchors_read-2.ensures c.if-write.false

@@ -1,34 +1,15 @@
-use mathlib.Core.Path.{◌≡◌, refl, sym, ◌∙◌}
-use native.Mathlib.Omega.{arith}
-use lib.ListN.{length}
-use borrow.Author.Tests.{not-true, not-false}
-use borrow.Author.Rules.{rules}
+use Rattle.std.proofs.Common.{◌≡◌, ◌+◌, ◌-◌, take, drop, arith, rules, tests, ◌∙◌}
+use Rattle.std.proofs.lemmas.Iterator.{YieldsList-from_slice}
+use Rattle.std.proofs.lemmas.Iterator.Search.{all_from_yields_List}
+use Rattle.rows.specs.Rows.{part}
 use Rattle.reader_rules.specs.Offsets.{range_meets}
-use Rattle.reader_rules.specs.State.{no_range, max_ranges}
-use Rattle.reader_offsets.proofs.Windows.{every_fail, every_next, every_end}
+use Rattle.reader_offsets.proofs.Windows.{every_listed}
 use Rattle.reader_offsets.proofs.ranges.every_range.Goals as goal
-
-pub loop-left-init : goal.loop-left-init
-loop-left-init c = (search rules, refl)
-
-pub returns-then-not-every_partition : goal.returns-then-not-every_partition
-returns-then-not-every_partition c =
-    let c-args = c.args in
-    let l = c.loop-left in
-    let xs = c-args.ranges in
-    let n : length xs ≡ max_ranges = search rules in
-    sym (sym l.invariant.1 ∙ every_fail (range_meets c-args.test c-args.partitions) no_range xs l.at l.left c.loop-left-test.true (omega arith) (sym c.every_partition.ensures ∙ not-true _ c.if-not-every_partition.true-raw))
-
-pub loop-left-preserved : goal.loop-left-preserved
-loop-left-preserved c =
-    let c-args = c.args in
-    let l = c.loop-left in
-    let xs = c-args.ranges in
-    let n : length xs ≡ max_ranges = search rules in
-    (omega arith, every_next (range_meets c-args.test c-args.partitions) no_range xs l.at l.left c.loop-left-test.true (omega arith) (sym c.every_partition.ensures ∙ not-false _ c.if-not-every_partition.false-raw) ∙ l.invariant.1)
 
 pub returns : goal.returns
 returns c =
-    let c-loop = c.loop-left in
-    let c-args = c.args in
-    sym (sym c-loop.invariant.1 ∙ every_end (range_meets c-args.test c-args.partitions) c-args.ranges c-loop.at c-loop.left c.loop-left-test.false)
+    let a = c.args in
+    let n : a.first + a.n - a.first ≡ a.n = omega arith in
+    let of = take (a.first + a.n - a.first) (drop a.first a.ranges) in
+    all_from_yields_List (range_meets a.test a.partitions) c.all.new.self _ c.all.result c.all.ensures.ran (YieldsList-from_slice of cc) (λ x b q k. search (rules, tests))
+    ∙ rw n (every_listed (range_meets a.test a.partitions) (part a.first a.n a.ranges))

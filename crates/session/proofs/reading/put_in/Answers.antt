@@ -1,10 +1,12 @@
-use Rattle.session.proofs.Laws.{done_no, done_yes}
+use Rattle.session_rules.proofs.Printed.{printed_same, printed_no_text, bad_where_refused, after_where_not}
+use Rattle.refusals.proofs.Laws.{refused_is_not_done}
+use mathlib.Core.Path.{refl}
 use Rattle.session.proofs.reading.put_in.Goals as goal
 
-pub returns-then-done-ne0 : goal.returns-then-done-ne0
-returns-then-done-ne0 c = let a = c.args in
-    done_no a.session a.reader a.done a.text.now _ c.if-done-ne0.true c.bad.ensures
+pub returns-in-Ok : goal.returns-in-Ok
+returns-in-Ok c = let s = c.args.session in
+    rw c.in-Ok.is (printed_no_text s _ _ (after_where_not s s 0 refl), refl)
 
-pub returns : goal.returns
-returns c = let a = c.args in
-    done_yes a.session a.reader a.done a.text.now c.if-done-ne0.false
+pub returns-in-Err : goal.returns-in-Err
+returns-in-Err c = let s = c.args.session in
+    rw c.in-Err.is (printed_same _ _ _ _ c.bad.ensures (bad_where_refused s s _ (refused_is_not_done c.in-Err.refusal)), refl)

@@ -1,8 +1,12 @@
-use Rattle.session.proofs.Laws.{read_leaves}
+use Rattle.session.proofs.Laws.{read_no, read_yes}
 use Rattle.session.proofs.reading.read.Goals as goal
 
-pub returns : goal.returns
-returns c =
-    let c-read-into-buffers = c.read_into_buffers-answer in
+pub returns-in-Ok : goal.returns-in-Ok
+returns-in-Ok c =
     let a = c.args in
-    read_leaves a.session c-read-into-buffers.result _ _ (rw c.mode_of-mode.ensures at c-read-into-buffers.ensures) _ _ _ c.put_read.ensures
+    read_yes a.session a.reader _ _ a.text.now c.in-Ok.answer (rw (c.in-Ok.is) at c.read_into_buffers.ensures) _ c.put-to.ensures _ c.put_answer-at.ensures
+
+pub returns-in-Err : goal.returns-in-Err
+returns-in-Err c =
+    let a = c.args in
+    read_no a.session a.reader _ _ a.text.now c.in-Err.refusal (rw (c.in-Err.is) at c.read_into_buffers.ensures) _ (rw c.into.ensures at c.put-at.ensures)

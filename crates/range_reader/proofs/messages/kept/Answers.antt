@@ -1,7 +1,0 @@
-use Rattle.range_reader.specs.Locals.{taken}
-use mathlib.Core.Path.{refl}
-use Rattle.range_reader.proofs.messages.kept.Goals as goal
-
-pub returns : goal.returns
-unfolding taken
-returns c = λ limit. refl

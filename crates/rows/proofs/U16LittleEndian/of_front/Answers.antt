@@ -1,0 +1,5 @@
+use Rattle.rows.proofs.Laws.{num_front}
+use Rattle.rows.proofs.U16LittleEndian.of_front.Goals as goal
+
+pub returns : goal.returns
+returns c = num_front 1 c.args.bytes.now c.first_chunk.result _ _ c.first_chunk.ensures.cases c.copied.ensures c.map_or.ensures
