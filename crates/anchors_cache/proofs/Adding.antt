@@ -1,20 +1,30 @@
 -- The two halves of an add, and its two ends.
 use Prim.Native.Nat.{ℕ, ◌+◌, ◌*◌, ◌≤◌, ◌<◌}
-use mathlib.Core.Path.{◌≡◌, ap, ◌∙◌}
+use mathlib.Core.Path.{◌≡◌, refl, ap, ◌∙◌}
+use mathlib.Core.Bool.{Bool, true, false}
 use mathlib.Core.List.{List}
 use native.Mathlib.Omega.{arith}
 use lib.ListN.{length}
-use borrow.Author.Tests.{lt-ltb, le-ltb}
+use borrow.Author.Tests.{lt-ltb, le-ltb, leb-true}
+use Rattle.rows.specs.Rows.{pick, stays}
 use Rattle.rows.proofs.Laws.{appended_length}
 use Rattle.anchors_cache.specs.declared.AnchorsCache.{AnchorsCache}
-use Rattle.cache_rules.specs.Rules.{Row, max_anchors, area_bytes}
-use Rattle.anchors_cache.specs.Tables.{anchor_row, info_row, history_bytes, tables_bytes}
-use Rattle.anchors_cache.specs.Windows.{info_for, used_by, in_history, history_added, in_cache, anchor_added, messages_added, added_cache, added_tables, added_area, Sound, Room}
+use Rattle.cache_rules.specs.Rules.{Row, max_anchors, max_history, area_bytes}
+use Rattle.anchors_cache.specs.Tables.{anchor_row, info_row, history_bytes}
+use Rattle.anchors_cache.specs.Windows.{info_for, used_by, in_history, history_added, in_cache, anchor_added, messages_added, added_cache, added_tables, added_area, Inside, Sound, Room}
+
+-- a history with an entry more, which begins at 0 where no room was behind it
+pub grown_within : (first len : ℕ) → first + len ≤ max_history → len < max_history → pick (stays (52 * first) (52 * len) 52 history_bytes) first 0 + (len + 1) ≤ max_history
+grown_within first len lies room = go (stays (52 * first) (52 * len) 52 history_bytes) refl
+  where
+    go : (b : Bool) → stays (52 * first) (52 * len) 52 history_bytes ≡ b → pick b first 0 + (len + 1) ≤ max_history
+    go true e = omega (arith, leb-true _ _ e)
+    go false e = omega arith
 
 -- what the second half asks of the first
 pub half_asks : (tables area : List ℕ) (c : AnchorsCache) (a : Row) (messages : List ℕ) → Sound tables area c → Room tables c a.ours messages → 0 < a.ours
     → (d : AnchorsCache) (used : ℕ) (t irow row : List ℕ) → d ≡ in_history c → used ≡ used_by tables c → length irow ≡ 52 → t ≡ history_added irow c tables → length row ≡ 50
-    → (tables_bytes ≤ length t) × (area_bytes ≤ length area) × (length row ≡ 50) × (d.first + d.len ≤ max_anchors) × (d.len < max_anchors) × (33 * (d.base + used) ≤ length area) × (33 * used + length messages ≤ area_bytes)
+    → Inside t d × (area_bytes ≤ length area) × (length row ≡ 50) × (d.len < max_anchors) × (33 * (d.base + used) ≤ length area) × (33 * used + length messages ≤ area_bytes)
 unfolding in_history
 half_asks tables area c a messages s r o d used t irow row de ue w te v =
     let tall = s.tall in
@@ -29,7 +39,8 @@ half_asks tables area c a messages s r o d used t irow row de ue w te v =
     let db = ap (λ (x : AnchorsCache). x.base) de in
     let i = s.anchors_within in
     let q = r.anchors o in
-    (omega arith, s.broad, v, omega arith, omega arith, omega arith, omega arith)
+    let grown : d.history_first + d.history_len ≤ max_history = rw de (grown_within c.history_first c.history_len h f) in
+    ((omega arith, omega arith, grown), s.broad, v, omega arith, omega arith, omega arith)
 
 module _ (tables area : List ℕ) (c : AnchorsCache) (a : Row) (messages : List ℕ) where
   abbrev Whole : AnchorsCache → List ℕ → List ℕ → Type 0

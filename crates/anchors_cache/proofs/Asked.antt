@@ -1,4 +1,5 @@
 -- Laws of the questions: what the code's tests say of the definitions, and what a number 0 says of a window.
+use Rattle.std.proofs.lemmas.Bool.{and_parts}
 use Prim.Native.Nat.{ℕ, zero, suc, ◌+◌, ◌-◌, ◌*◌, ◌/◌, ◌≤◌, ◌<◌}
 use mathlib.Core.Path.{◌≡◌, refl, sym, ap, ◌∙◌}
 use mathlib.Core.Bool.{Bool, true, false, not, beq, ◌&&◌, ◌||◌}
@@ -9,14 +10,13 @@ use lib.Dec.{ltb, leb, eqb}
 use lib.ListN.{length}
 use borrow.Author.Tests.{lt-ltb, lt-leb, leb-true, leb-false, ltb-true, eqb-true}
 use Rattle.rows.specs.Rows.{pick}
-use Rattle.rows.proofs.Laws.{and_true}
 use Rattle.anchors_cache.specs.declared.AnchorsCache.{AnchorsCache}
 use Rattle.anchors_cache.specs.declared.CachedAnchor.{CachedAnchor}
 use Rattle.anchors_cache.specs.declared.AnchorsCacheTransaction.{AnchorsCacheTransaction}
 use Rattle.std.specs.Prelude.{Some, None}
 use Rattle.cache_rules.specs.Rules.{Row, sound_row, sound_from, total, last_of, above_last, same_bool, right_size, room, pending_up_to, ask, max_anchors, max_anchor_messages, max_messages, max_history, area_bytes}
 use Rattle.anchors_cache.specs.Tables.{tables_bytes, anchors, anchor_at, anchors_of}
-use Rattle.anchors_cache.specs.Windows.{used_by, Sound, Room, any_places}
+use Rattle.anchors_cache.specs.Windows.{used_by, Inside, Sound, Room, any_places}
 use Rattle.anchors_cache.specs.Calls.{same_window, sound_total, sound_anchor, cached_anchor, valid_cache, valid, refusal, refusal_at, refusal_seen, add_number, add_info_number, on_zero, places_in}
 use Rattle.anchors_cache.proofs.Laws.{anchors_cons, anchors_none}
 
@@ -24,9 +24,9 @@ use Rattle.anchors_cache.proofs.Laws.{anchors_cons, anchors_none}
 row_count : (low : ℕ) (a : Row) → sound_row low a ≡ true → a.count ≤ max_anchor_messages
 unfolding sound_row
 row_count low a e =
-    let p1 = and_true (leb low a.id) (ltb 0 a.ours && (leb a.ours a.count && leb a.count max_anchor_messages)) e in
-    let p2 = and_true (ltb 0 a.ours) (leb a.ours a.count && leb a.count max_anchor_messages) p1.1 in
-    leb-true _ _ (and_true (leb a.ours a.count) (leb a.count max_anchor_messages) p2.1).1
+    let p1 = and_parts (leb low a.id) (ltb 0 a.ours && (leb a.ours a.count && leb a.count max_anchor_messages)) e in
+    let p2 = and_parts (ltb 0 a.ours) (leb a.ours a.count && leb a.count max_anchor_messages) p1.1 in
+    leb-true _ _ (and_parts (leb a.ours a.count) (leb a.count max_anchor_messages) p2.1).1
 
 row_sound : (low place : ℕ) (a : Row) → sound_anchor low (cached_anchor place a) ≡ sound_row low a
 unfolding sound_row
@@ -93,12 +93,12 @@ pub record Parts (places : ℕ) (tables : List ℕ) (c : AnchorsCache) : Type 0 
 pub parts : (places : ℕ) (tables : List ℕ) (c : AnchorsCache) → valid_cache places tables c ≡ true → Parts places tables c
 unfolding valid_cache
 parts places tables c e =
-    let p1 = and_true _ _ e in
-    let p2 = and_true _ _ p1.1 in
-    let p3 = and_true _ _ p2.1 in
-    let p4 = and_true _ _ p3.1 in
-    let p5 = and_true _ _ p4.1 in
-    let p6 = and_true _ _ p5.1 in
+    let p1 = and_parts _ _ e in
+    let p2 = and_parts _ _ p1.1 in
+    let p3 = and_parts _ _ p2.1 in
+    let p4 = and_parts _ _ p3.1 in
+    let p5 = and_parts _ _ p4.1 in
+    let p6 = and_parts _ _ p5.1 in
     record {
       tall = leb-true _ _ p1.0;
       anchors_within = leb-true _ _ p2.0;
@@ -108,6 +108,9 @@ parts places tables c e =
       in_area = leb-true _ _ p6.0;
       pend = p6.1;
     }
+
+pub inside : (places : ℕ) (tables : List ℕ) (c : AnchorsCache) → Parts places tables c → Inside tables c
+inside places tables c p = (p.tall, p.anchors_within, p.history_within)
 
 -- the tests of two marks
 pub same_beq : (a b : Bool) → same_bool a b ≡ beq a b
@@ -125,11 +128,11 @@ same_pending false false e = refl
 pub same_window_lem : (a b : AnchorsCache) → same_window a b ≡ true → a ≡ b
 unfolding same_window
 same_window_lem a b e =
-    let f = and_true (eqb a.first b.first) _ e in
-    let l = and_true (eqb a.len b.len) _ f.1 in
-    let hf = and_true (eqb a.history_first b.history_first) _ l.1 in
-    let hl = and_true (eqb a.history_len b.history_len) _ hf.1 in
-    let n = and_true (eqb a.base b.base) _ hl.1 in
+    let f = and_parts (eqb a.first b.first) _ e in
+    let l = and_parts (eqb a.len b.len) _ f.1 in
+    let hf = and_parts (eqb a.history_first b.history_first) _ l.1 in
+    let hl = and_parts (eqb a.history_len b.history_len) _ hf.1 in
+    let n = and_parts (eqb a.base b.base) _ hl.1 in
     same_parts (eqb-true _ _ f.0) (eqb-true _ _ l.0) (eqb-true _ _ hf.0) (eqb-true _ _ hl.0) (eqb-true _ _ n.0) (same_pending a.pending b.pending n.1)
   where
     window : ℕ → ℕ → ℕ → ℕ → ℕ → Bool → AnchorsCache
@@ -152,10 +155,6 @@ unfolding same_window
 equal_window a b e = same_window_lem a b (rw (same_beq a.pending b.pending) e)
 
 module _ (places : ℕ) (tables : List ℕ) (t : AnchorsCacheTransaction) where
-  pub valid_not : valid_cache places tables t.cache ≡ false → valid places tables t ≡ false
-  unfolding valid
-  valid_not e = rw e
-
   pub valid_open : valid_cache places tables t.cache ≡ true → t.active ≡ true → valid places tables t ≡ valid_cache places tables t.undo
   unfolding valid
   valid_open e f = rw e (ap (λ (b : Bool). pick b (valid_cache places tables t.undo) true) f)
@@ -169,7 +168,7 @@ module _ (places : ℕ) (tables : List ℕ) (t : AnchorsCacheTransaction) where
 
   pub valid_parts : valid places tables t ≡ true → Parts places tables t.cache
   unfolding valid
-  valid_parts e = parts places tables t.cache (and_true _ _ e).0
+  valid_parts e = parts places tables t.cache (and_parts _ _ e).0
 
 -- ---- the first "no" of questions 1 and 5
 two_yes : (a b : Bool) → ask 1 a (ask 5 b 0) ≡ 0 → (a ≡ true) × (b ≡ true)
@@ -197,6 +196,9 @@ module _ (n : ℕ) (tables : List ℕ) (t : AnchorsCacheTransaction) where
   pub refusal_parts : refusal n tables t ≡ 0 → Parts (places_in n) tables t.cache
   refusal_parts e = valid_parts (places_in n) tables t (refusal_zero e).1
 
+  pub asked_inside : refusal n tables t ≡ 0 → Inside tables t.cache
+  asked_inside e = inside (places_in n) tables t.cache (refusal_parts e)
+
   pub at_refused : (must : Bool) → (refusal n tables t ≡ 0 → ⊥) → refusal_at must n tables t ≡ refusal n tables t
   unfolding refusal refusal_at
   at_refused must p = two_refused (leb area_bytes n) (valid (places_in n) tables t) _ p
@@ -218,25 +220,33 @@ module _ (n : ℕ) (tables : List ℕ) (t : AnchorsCacheTransaction) where
       unfolding refusal add_number
       add_asked = two_asked (leb area_bytes n) (valid (places_in n) tables t) _ asked
 
-      pub add_six : right_size ours k ≡ false → add_number n tables t id ours k ≡ 6
-      add_six e = add_asked ∙ rw e
+    -- by the code's own tests: of the size, then of the id against a window's last, then of the room
+    module _ (asked : 0 ≡ refusal n tables t) (right : Bool) (size_tested : right ≡ right_size ours k) where
+      pub add_six : right ≡ false → 6 ≡ add_number n tables t id ours k
+      add_six e = sym (add_asked (sym asked) ∙ rw (sym size_tested ∙ e))
 
-      module _ (sized : right_size ours k ≡ true) where
-        pub add_seven : above_last id (last_of (anchors_of tables t.cache)) ≡ false → add_number n tables t id ours k ≡ 7
-        add_seven e = add_asked ∙ rw (sized, e)
+      module _ (sized : right ≡ true) (bytes : List ℕ) (first len : ℕ) (window : (bytes ≡ tables) × (first ≡ t.cache.first) × (len ≡ t.cache.len)) (below : Bool) (id_tested : below ≡ above_last id (last_of (anchors first len bytes))) where
+        is_above : below ≡ above_last id (last_of (anchors_of tables t.cache))
+        is_above = id_tested ∙ rw (window.0, window.1, window.2)
 
-        module _ (above : above_last id (last_of (anchors_of tables t.cache)) ≡ true) where
-          abbrev has : Bool
-          has = room t.cache.len (used_by tables t.cache) t.cache.history_len ours (k / 33)
+        pub add_seven : below ≡ false → 7 ≡ add_number n tables t id ours k
+        add_seven e = sym (add_asked (sym asked) ∙ rw (sym size_tested ∙ sized, sym is_above ∙ e))
 
-          pub add_eight : has ≡ false → add_number n tables t id ours k ≡ 8
-          add_eight e = add_asked ∙ rw (sized, above, e)
+        module _ (above : below ≡ true) (m : ℕ) (counted : m ≡ total (anchors first len bytes)) (fits : Bool) (room_tested : fits ≡ room t.cache.len m t.cache.history_len ours (k / 33)) where
+          has_room : fits ≡ room t.cache.len (used_by tables t.cache) t.cache.history_len ours (k / 33)
+          has_room = room_tested ∙ ap (λ (j : ℕ). room t.cache.len j t.cache.history_len ours (k / 33)) (counted ∙ rw (window.0, window.1, window.2))
 
-          pub add_nine : has ≡ true → t.active ≡ true → add_number n tables t id ours k ≡ 9
-          add_nine e f = add_asked ∙ (rw (sized, above, e) (ap (λ (b : Bool). ask 9 (not b) 0) f))
+          at_last : fits ≡ true → add_number n tables t id ours k ≡ ask 9 (not t.active) 0
+          at_last e = add_asked (sym asked) ∙ rw (sym size_tested ∙ sized, sym is_above ∙ above, sym has_room ∙ e)
 
-          pub add_zero : has ≡ true → t.active ≡ false → add_number n tables t id ours k ≡ 0
-          add_zero e f = add_asked ∙ (rw (sized, above, e) (ap (λ (b : Bool). ask 9 (not b) 0) f))
+          pub add_eight : fits ≡ false → 8 ≡ add_number n tables t id ours k
+          add_eight e = sym (add_asked (sym asked) ∙ rw (sym size_tested ∙ sized, sym is_above ∙ above, sym has_room ∙ e))
+
+          pub add_nine : fits ≡ true → t.active ≡ true → 9 ≡ add_number n tables t id ours k
+          add_nine e f = sym (at_last e ∙ ap (λ (b : Bool). ask 9 (not b) 0) f)
+
+          pub add_zero : fits ≡ true → t.active ≡ false → 0 ≡ add_number n tables t id ours k
+          add_zero e f = sym (at_last e ∙ ap (λ (b : Bool). ask 9 (not b) 0) f)
 
   -- of an entry to the history alone
   abbrev grows : Bool
@@ -259,6 +269,9 @@ seen_parts tables t e = valid_parts any_places tables t (go (valid any_places ta
     go true f = refl
     go false f = absurd (omega arith)
 
+pub seen_inside : (tables : List ℕ) (t : AnchorsCacheTransaction) → refusal_seen tables t ≡ 0 → Inside tables t.cache
+seen_inside tables t e = inside any_places tables t.cache (seen_parts tables t e)
+
 -- ---- what a number 0 says of an add
 six_yes : (a b c d : Bool) → ask 6 a (ask 7 b (ask 8 c (ask 9 (not d) 0))) ≡ 0 → (a ≡ true) × (b ≡ true) × (c ≡ true) × (d ≡ false)
 six_yes false b c d e = absurd (omega arith)
@@ -270,8 +283,8 @@ six_yes true true true false e = (refl, refl, refl, refl)
 pub size_of : (ours k : ℕ) → right_size ours k ≡ true → (k ≤ (33 * max_anchor_messages)) × (33 * (k / 33) ≡ k) × (ours ≤ k / 33)
 unfolding right_size
 size_of ours k e =
-    let p1 = and_true (leb k (33 * max_anchor_messages)) (leb k (33 * (k / 33)) && leb ours (k / 33)) e in
-    let p2 = and_true (leb k (33 * (k / 33))) (leb ours (k / 33)) p1.1 in
+    let p1 = and_parts (leb k (33 * max_anchor_messages)) (leb k (33 * (k / 33)) && leb ours (k / 33)) e in
+    let p2 = and_parts (leb k (33 * (k / 33))) (leb ours (k / 33)) p1.1 in
     let a : k ≤ (33 * max_anchor_messages) = leb-true _ _ p1.0 in
     let d : k ≤ 33 * (k / 33) = leb-true _ _ p2.0 in
     (a, omega (arith, mul-div-le k 33), leb-true _ _ p2.1)
@@ -284,10 +297,10 @@ pub room_of : (anchors messages history ours count : ℕ) → room anchors messa
     → (history < max_history) × (0 < ours → (anchors < max_anchors) × (messages + count ≤ max_messages))
 unfolding room
 room_of anchors messages history ours count e =
-    let x = and_true (ltb history max_history) (pick (ltb 0 ours) (ltb anchors max_anchors && leb (messages + count) max_messages) true) e in (
+    let x = and_parts (ltb history max_history) (pick (ltb 0 ours) (ltb anchors max_anchors && leb (messages + count) max_messages) true) e in (
       ltb-true _ _ x.0,
       λ (o : 0 < ours).
-          let v = and_true _ _ (pick_some (ltb 0 ours) (ltb anchors max_anchors && leb (messages + count) max_messages) x.1 (lt-ltb 0 ours o)) in
+          let v = and_parts _ _ (pick_some (ltb 0 ours) (ltb anchors max_anchors && leb (messages + count) max_messages) x.1 (lt-ltb 0 ours o)) in
           (ltb-true _ _ v.0, leb-true _ _ v.1),
     )
 
@@ -348,15 +361,15 @@ none_above : (id low : ℕ) (l : List Row) → id < low → sound_from low l ≡
 unfolding sound_from pending_up_to sound_row
 none_above id low [] p e = refl
 none_above id low (a ∷ l) p e =
-    let q = and_true (sound_row low a) (sound_from (a.id + 1) l) e in
-    let r = leb-true low a.id (and_true (leb low a.id) _ q.0).0 in
+    let q = and_parts (sound_row low a) (sound_from (a.id + 1) l) e in
+    let r = leb-true low a.id (and_parts (leb low a.id) _ q.0).0 in
     rw (lt-leb a.id id (omega arith)) (none_above id (a.id + 1) l (omega arith) q.1)
 
 pub front_decides : (id : ℕ) (a : Row) (l : List Row) → sound_from 0 (a ∷ l) ≡ true → pending_up_to id (a ∷ l) ≡ leb a.id id
 unfolding sound_from pending_up_to sound_row
 front_decides id a l e =
-    let q = and_true (sound_row 0 a) (sound_from (a.id + 1) l) e in
-    let o : ltb 0 a.ours ≡ true = (and_true (ltb 0 a.ours) _ (and_true (leb 0 a.id) _ q.0).1).0 in
+    let q = and_parts (sound_row 0 a) (sound_from (a.id + 1) l) e in
+    let o : ltb 0 a.ours ≡ true = (and_parts (ltb 0 a.ours) _ (and_parts (leb 0 a.id) _ q.0).1).0 in
     go o q.1 (leb a.id id) refl
   where
     go : ltb 0 a.ours ≡ true → sound_from (a.id + 1) l ≡ true → (b : Bool) → leb a.id id ≡ b → ((leb a.id id && ltb 0 a.ours) || pending_up_to id l) ≡ leb a.id id

@@ -4,13 +4,16 @@ use mathlib.Core.Path.{◌≡◌, refl, sym, ap, subst, ◌∙◌}
 use mathlib.Core.Bool.{Bool, true, false}
 use mathlib.Core.List.{List, [], ◌∷◌, ◌++◌, map}
 use mathlib.Core.Option.{some}
-use mathlib.Core.Logic.{⊎_elim}
+use mathlib.Core.Logic.{◌⊎◌, inl, inr, ⊎_elim}
 use native.Mathlib.Nat.{eq-zero-or-pos}
 use native.Mathlib.Omega.{arith}
-use lib.Dec.{ltb}
-use lib.ListN.{length, take, drop, replicate, length-map, length-append}
+use lib.Dec.{ltb, eqb}
+use lib.ListN.{length, take, drop, length-map, length-append}
 use lib.Seq.{drop-drop, sets, length-sets}
-use borrow.Author.Tests.{lt-ltb, le-ltb}
+use borrow.Author.Tests.{lt-ltb, le-ltb, ltb-true, ltb-false, eqb-true, eqb-false}
+use Rattle.std.proofs.lemmas.Bool.Decides.{nat_tests}
+use Rattle.std.proofs.lemmas.List.{map-append, drop-map, take-map}
+use Rattle.std.specs.Ordering.{is_le, nat_cmp}
 use Rattle.rows.specs.Rows.{pick, part, le, word, rows, num_at, written, stays, appended, append_answer, appended_if_fits, placed_at}
 use Rattle.rows.proofs.Laws.{rows_cons, rows_back, rows_length, rows_drop, rows_take, part_length, sets_append, length_le, sets_all, num_in, written_in, append_some, appended_some, fits_yes}
 use Rattle.rows.specs.declared.Appended.{Appended}
@@ -20,23 +23,9 @@ use Rattle.cache_rules.proofs.ByCall.{trim_snoc}
 use Rattle.cache_rules.proofs.Lists.{trim_prefix, stale_le, trim_le, history_snoc, history_le, history_prefix, last_snoc}
 use Rattle.cache_rules.specs.Rules.{row_of, Info, Row, drop_stale, trim_back, trim_history, last_of, total, author_bytes}
 use Rattle.anchors_cache.specs.Tables.{with_messages, history_bytes, anchor_row, info_row, anchor_of, info_of, anchors, infos, anchor_at, info_at}
-use Rattle.anchors_cache.specs.Windows.{row_time, popped_by, popped_cache, popped_times, Lies}
+use Rattle.anchors_cache.specs.Windows.{Inside, row_time, popped_by, popped_cache, popped_times, trimmed_cache, Lies}
 
--- ---- maps over rows
-pub map_append : {A B : Type 0} (f : A → B) (a b : List A) → map f (a ++ b) ≡ map f a ++ map f b
-map_append f [] b = refl
-map_append {B = B} f (x ∷ a) b = ap (λ (l : List B). f x ∷ l) (map_append f a b)
-
-drop_map : {A B : Type 0} (f : A → B) (k : ℕ) (l : List A) → drop k (map f l) ≡ map f (drop k l)
-drop_map f zero l = refl
-drop_map f (suc k) [] = refl
-drop_map f (suc k) (x ∷ l) = drop_map f k l
-
-take_map : {A B : Type 0} (f : A → B) (k : ℕ) (l : List A) → take k (map f l) ≡ map f (take k l)
-take_map f zero l = refl
-take_map f (suc k) [] = refl
-take_map {B = B} f (suc k) (x ∷ l) = ap (λ (m : List B). f x ∷ m) (take_map f k l)
-
+-- ---- rows of a table
 -- what rows of w bytes say, n of them from `start` and `first` rows on; both tables are such
 module _ {A : Type 0} (f : List ℕ → A) (w start : ℕ) where
   abbrev pub says : ℕ → ℕ → List ℕ → List A
@@ -53,14 +42,14 @@ module _ {A : Type 0} (f : List ℕ → A) (w start : ℕ) where
     pub says_snoc : (first n : ℕ) (l : List ℕ) → 0 < n → says first n l ≡ says first (n - 1) l ++ (f (part (start + w * (first + (n - 1))) w l) ∷ [])
     says_snoc first n l p =
         rw (rows_back w n (drop (start + w * first) l) p, drop-drop (w * (n - 1)) (start + w * first) l, more first (n - 1))
-        (map_append f (rows w (n - 1) (drop (start + w * first) l)) (part (start + w * (first + (n - 1))) w l ∷ []))
+        (map-append f (rows w (n - 1) (drop (start + w * first) l)) (part (start + w * (first + (n - 1))) w l ∷ []))
 
     pub says_drop : (first k n : ℕ) (l : List ℕ) → drop k (says first n l) ≡ says (first + k) (n - k) l
     says_drop first k n l =
-        rw (drop_map f k (rows w n (drop (start + w * first) l)), rows_drop w k n (drop (start + w * first) l), drop-drop (w * k) (start + w * first) l, more first k)
+        rw (drop-map f k (rows w n (drop (start + w * first) l)), rows_drop w k n (drop (start + w * first) l), drop-drop (w * k) (start + w * first) l, more first k)
 
   pub says_take : (first k n : ℕ) (l : List ℕ) → k ≤ n → take k (says first n l) ≡ says first k l
-  says_take first k n l p = take_map f k (rows w n (drop (start + w * first) l)) ∙ rw (rows_take w k n (drop (start + w * first) l) p)
+  says_take first k n l p = take-map f k (rows w n (drop (start + w * first) l)) ∙ rw (rows_take w k n (drop (start + w * first) l) p)
 
 -- ---- the window of the anchors
 pub anchors_cons : (first n : ℕ) (l : List ℕ) → 0 < n → anchors first n l ≡ anchor_at first l ∷ anchors (first + 1) (n - 1) l
@@ -140,6 +129,15 @@ unfolding with_messages
 rows_of_messages bytes [] = refl
 rows_of_messages bytes (a ∷ l) = rw (rows_length 33 a.count bytes, rows_of_messages (drop (33 * a.count) bytes) l)
 
+-- what the code's comparison of two chain times tells
+pub time_tells : (a b : ℕ) → ((is_le (nat_cmp a b) ≡ true) × (a ≤ b)) ⊎ ((is_le (nat_cmp a b) ≡ false) × (b < a))
+time_tells a b = go (ltb a b) refl (eqb a b) refl
+  where
+    go : (x : Bool) → ltb a b ≡ x → (y : Bool) → eqb a b ≡ y → ((is_le (nat_cmp a b) ≡ true) × (a ≤ b)) ⊎ ((is_le (nat_cmp a b) ≡ false) × (b < a))
+    go true p y q = inl (rw p, omega (arith, ltb-true a b p))
+    go false p true q = inl (rw (p, q), omega (arith, eqb-true a b q))
+    go false p false q = let d = eqb-false a b q in inr (rw (p, q), omega (arith, ltb-false a b p))
+
 -- ---- stale history: a turn of the loop, and its two ends
 module _ (first k ct : ℕ) (l : List ℕ) where
   stale_step : 1 < k → drop_stale ct (infos first k l) ≡ pick (ltb (info_at first l).time ct) (drop_stale ct (infos (first + 1) (k - 1) l)) (infos first k l)
@@ -157,6 +155,8 @@ unfolding drop_stale infos rows
 stale_few first zero ct l p = refl
 stale_few first (suc zero) ct l p = refl
 stale_few first (suc (suc k)) ct l p = absurd (omega arith)
+
+pub ruleset stale_turns = (time_tells, stale_more, stale_stop, stale_few)
 
 pub fresh_le : (ct first len : ℕ) (l : List ℕ) → length (drop_stale ct (infos first len l)) ≤ len
 fresh_le ct first len l = omega (arith, stale_le ct (infos first len l), infos_length first len l)
@@ -217,6 +217,8 @@ kept_none ct first k l p = rw (anchors_none first k l p)
 pub kept_le : (ct first n : ℕ) (l : List ℕ) → length (trim_back row_time ct (anchors first n l)) ≤ n
 kept_le ct first n l = omega (arith, trim_le row_time ct (anchors first n l), anchors_length first n l)
 
+pub ruleset kept_turns = (time_tells, kept_more, kept_stop, kept_none)
+
 -- the history, whose front stays
 module _ (ct : ℕ) where
   module _ (first k : ℕ) (l : List ℕ) where
@@ -237,8 +239,16 @@ module _ (ct : ℕ) where
   history_few first (suc zero) l p = refl
   history_few first (suc (suc k)) l p = absurd (omega arith)
 
+pub ruleset history_turns = (time_tells, history_more, history_stop, history_few)
+
 pub history_kept_le : (ct first n : ℕ) (l : List ℕ) → length (trim_history ct (infos first n l)) ≤ n
 history_kept_le ct first n l = omega (arith, history_le ct (infos first n l), infos_length first n l)
+
+-- what a trim leaves lies where the window lay
+pub trimmed_inside : (ct : ℕ) (tables : List ℕ) (c : AnchorsCache) → Inside tables c → Inside tables (trimmed_cache ct tables c)
+unfolding trimmed_cache
+trimmed_inside ct tables c i =
+    (i.0, omega (arith, i.1, kept_le ct c.first c.len tables), omega (arith, i.2, history_kept_le ct c.history_first c.history_len tables))
 
 pub kept_window : (ct first n : ℕ) (l : List ℕ) → anchors first (length (trim_back row_time ct (anchors first n l))) l ≡ trim_back row_time ct (anchors first n l)
 kept_window ct first n l = sym (anchors_take first _ n l (kept_le ct first n l)) ∙ trim_prefix row_time ct (anchors first n l)
@@ -252,18 +262,14 @@ last_info first n l p = rw (infos_snoc first n l p) (last_snoc (infos first (n -
 pub last_anchor : (first n : ℕ) (l : List ℕ) → 0 < n → last_of (anchors first n l) ≡ some (anchor_at (first + (n - 1)) l)
 last_anchor first n l p = rw (anchors_snoc first n l p) (last_snoc (anchors first (n - 1) l) (anchor_at (first + (n - 1)) l))
 
--- ---- rows read: a number, or the author, of a row that lies in the table
+pub ruleset last_tests = (nat_tests, anchors_none, last_anchor)
+
+-- ---- rows read: a number of a row that lies in the table
 pub row_num : (l : List ℕ) (at w a k : ℕ) → at + w ≤ length l → a + k ≤ w → num_at k a (take (at + w - at) (drop at l)) ≡ word (part a k (part at w l))
 row_num l at w a k p q =
     let e : at + w - at ≡ w = omega arith in
     let n : length (part at w l) ≡ w = part_length l at w p in
     rw e (num_in k a (part at w l) (omega arith))
-
-pub author_copied : (l : List ℕ) (at : ℕ) → at + author_bytes ≤ length l → written 0 (take (at + author_bytes - at) (drop at l)) (replicate author_bytes 0) ≡ part at author_bytes l
-author_copied l at p =
-    let e : at + author_bytes - at ≡ author_bytes = omega arith in
-    let n : length (part at author_bytes l) ≡ author_bytes = part_length l at author_bytes p in
-    rw e (written_in 0 (part at author_bytes l) (replicate author_bytes 0) (omega arith) ∙ sets_all (replicate author_bytes 0) (part at author_bytes l) n)
 
 -- ---- a window of a table after an append that fits
 module _ (start from n k cap len : ℕ) (lies : start + cap ≤ len) (held : from + n ≤ cap) (space : n + k ≤ cap) where

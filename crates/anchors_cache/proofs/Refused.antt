@@ -1,22 +1,23 @@
 -- What a call answers where a question refuses it, and where none does.
 use Prim.Native.Nat.{ℕ}
-use mathlib.Core.Path.{◌≡◌, refl, sym, ap, ◌∙◌}
+use mathlib.Core.Path.{◌≡◌}
 use mathlib.Core.List.{List}
-use mathlib.Core.Bool.{Bool, false}
+use mathlib.Core.Bool.{Bool}
 use mathlib.Core.Option.{Option as Maybe}
 use Rattle.std.specs.Prelude.{Result, Ok, Err, Option}
 use Rattle.std.specs.Result.{IsErr, IsErrAnd, result_unwrap_or}
 use Rattle.refusals.specs.declared.Refusal.{Refusal}
 use Rattle.refusals.specs.Refusals.{number, number_of}
 use Rattle.refusals.proofs.Laws.{handed_on, refused_is_not_done}
-use Rattle.anchors_cache.proofs.Asked.{on_not}
+use Rattle.anchors_cache.proofs.Asked.{on_not, same_beq}
 use Rattle.cache_rules.specs.Rules.{Info, Row}
+use Rattle.anchors_cache.specs.declared.AnchorsCache.{AnchorsCache}
 use Rattle.anchors_cache.specs.declared.AnchorsCacheTransaction.{AnchorsCacheTransaction}
 use Rattle.anchors_cache.specs.declared.CachedAnchor.{CachedAnchor}
 use Rattle.anchors_cache.specs.declared.AnchorInfo.{AnchorInfo}
 use Rattle.anchors_cache.specs.declared.Authored.{Authored}
 use Rattle.anchors_cache.specs.declared.After.{After}
-use Rattle.anchors_cache.specs.Answers.{Done, Popped, Trimmed, AnchorAnswer, InfoAnswer, FlagAnswer, done_of, popped_of, trimmed_of, anchor_answer_of, info_answer_of, flag_answer_of}
+use Rattle.anchors_cache.specs.Answers.{done_of, popped_of, trimmed_of, anchor_answer_of, info_answer_of, flag_answer_of}
 use Rattle.anchors_cache.specs.Calls.{on_zero, answer, pop_answer, trim_answer, info_answer, get_answer, flag_answer}
 
 -- no question has the number 0
@@ -30,18 +31,18 @@ module _ {A : Type 0} (x : Result A Refusal) (r : Refusal) (k : ℕ) (h : IsErr 
   pub number_refused : number x ≡ k
   number_refused = rw (handed_on x r h) e
 
-module _ (t s : AnchorsCacheTransaction) (k : ℕ) (r : Refusal) (e : number_of r ≡ k) where
-  pub done_refused : (x : Result AnchorsCacheTransaction Refusal) → IsErr x × IsErrAnd x (λ e. e ≡ r) → done_of t x ≡ answer k t s
+module _ (t : AnchorsCacheTransaction) (k : ℕ) (r : Refusal) (e : number_of r ≡ k) where
+  pub done_refused : (s : AnchorsCacheTransaction) (x : Result AnchorsCacheTransaction Refusal) → IsErr x × IsErrAnd x (λ e. e ≡ r) → done_of t x ≡ answer k t s
   unfolding answer
-  done_refused x h = rw (handed_on x r h, ← e, on_refusal r s t)
+  done_refused s x h = rw (handed_on x r h, ← e, on_refusal r s t)
 
   pub pop_refused : (tables : List ℕ) (x : Result (After (Option (Authored CachedAnchor))) Refusal) → IsErr x × IsErrAnd x (λ e. e ≡ r) → popped_of t x ≡ pop_answer k tables t
   unfolding pop_answer
   pop_refused tables x h = rw (handed_on x r h, ← e, on_refusal r)
 
-  pub trim_refused : (tables : List ℕ) (x : Result (After (Option (Authored AnchorInfo))) Refusal) → IsErr x × IsErrAnd x (λ e. e ≡ r) → trimmed_of t x ≡ trim_answer k tables t s.cache
+  pub trim_refused : (tables : List ℕ) (c : AnchorsCache) (x : Result (After (Option (Authored AnchorInfo))) Refusal) → IsErr x × IsErrAnd x (λ e. e ≡ r) → trimmed_of t x ≡ trim_answer k tables t c
   unfolding trim_answer
-  trim_refused tables x h = rw (handed_on x r h, ← e, on_refusal r)
+  trim_refused tables c x h = rw (handed_on x r h, ← e, on_refusal r)
 
 module _ (k : ℕ) (r : Refusal) (e : number_of r ≡ k) where
   pub info_refused : (o : Maybe Info) (x : Result (Option (Authored AnchorInfo)) Refusal) → IsErr x × IsErrAnd x (λ e. e ≡ r) → info_answer_of x ≡ info_answer k o
@@ -55,6 +56,12 @@ module _ (k : ℕ) (r : Refusal) (e : number_of r ≡ k) where
   pub flag_refused : (b : Bool) (x : Result Bool Refusal) → IsErr x × IsErrAnd x (λ e. e ≡ r) → flag_answer_of x ≡ flag_answer k b
   unfolding flag_answer
   flag_refused b x h = rw (handed_on x r h, ← e, on_refusal r)
+
+-- each with what it says of a call that hands a refusal on
+pub ruleset refused = (done_refused, pop_refused, trim_refused, info_refused, get_refused, flag_refused)
+
+-- with a test of two marks
+pub ruleset asked_at = (same_beq, number_refused)
 
 -- what a call leaves, for a caller that goes on with the transaction in either case
 pub state_left : (t s : AnchorsCacheTransaction) (x : Result AnchorsCacheTransaction Refusal) → s ≡ result_unwrap_or x t → s ≡ (done_of t x).state

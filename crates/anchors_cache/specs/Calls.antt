@@ -1,6 +1,6 @@
 -- The questions of the cache's calls, and what each call answers, for every argument. n is the length of the message
 -- area.
-use Rattle.std.specs.Prelude.{ℕ, zero, suc, ◌+◌, ◌/◌, Bool, true, false, not, ◌&&◌, List, [], ◌∷◌, ltb, leb, eqb, length, take, drop, replicate}
+use Rattle.std.specs.Prelude.{ℕ, zero, suc, ◌+◌, ◌/◌, Bool, true, false, not, ◌&&◌, List, [], ◌∷◌, ltb, leb, eqb, length, take, drop}
 use Rattle.std.specs.Prelude.{Option, Some, None}
 use Rattle.std.proofs.Math.Option.{Option as Maybe, none, some}
 use Rattle.rows.specs.Rows.{pick}
@@ -12,7 +12,7 @@ use Rattle.anchors_cache.specs.declared.MempoolAnchor.{MempoolAnchor}
 use Rattle.anchors_cache.specs.declared.CachedAnchor.{CachedAnchor}
 use Rattle.anchors_cache.specs.declared.AnchorInfo.{AnchorInfo}
 use Rattle.anchors_cache.specs.Answers.{Done, Popped, Trimmed, AnchorAnswer, InfoAnswer, IdAnswer, FlagAnswer, no_author}
-use Rattle.cache_rules.specs.Rules.{Info, Row, last_of, info_at_ct, sound_row, sound_from, total, same_bool, pending_up_to, right_size, above_last, room, ask, max_anchors, max_anchor_messages, max_history, max_messages, author_bytes, area_bytes}
+use Rattle.cache_rules.specs.Rules.{Info, Row, last_of, info_at_ct, sound_row, sound_from, total, same_bool, pending_up_to, right_size, above_last, room, ask, max_anchors, max_anchor_messages, max_history, max_messages, area_bytes}
 use Rattle.anchors_cache.specs.Tables.{tables_bytes, anchors_of, history_of, anchor_at, info_at}
 use Rattle.anchors_cache.specs.Windows.{popped_cache, popped_times, trimmed_cache, no_cache, in_history, added_cache, used_by, any_places}
 
@@ -128,6 +128,10 @@ shown_anchor i base l = record { number = 0; anchor = anchor_found (base + total
 
 unfoldable pub shown_info : Maybe Info → InfoAnswer
 shown_info o = record { number = 0; info = info_found o; author = info_author o }
+
+-- an entry of the history by its row; past the table there is none
+abbrev pub entry_at : ℕ → List ℕ → Maybe Info
+entry_at i tables = pick (ltb i max_history && leb tables_bytes (length tables)) (some (info_at i tables)) none
 
 -- ---- add
 abbrev pub row_for : MempoolAnchor → ℕ → ℕ → Row

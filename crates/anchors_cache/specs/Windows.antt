@@ -12,6 +12,10 @@ any_places = 2 ^ 64 / 33
 abbrev pub row_time : Row → ℕ
 row_time a = a.time
 
+-- the tables are whole, and a cache's two windows lie in them
+abbrev pub Inside : List ℕ → AnchorsCache → Type 0
+Inside tables c = (tables_bytes ≤ length tables) × (c.first + c.len ≤ max_anchors) × (c.history_first + c.history_len ≤ max_history)
+
 -- ---- pop: both windows begin later
 abbrev pub fresh_len : ℕ → List ℕ → AnchorsCache → ℕ
 fresh_len ct tables c = length (drop_stale ct (history_of tables c))

@@ -1,6 +1,8 @@
 // The anchors cache and its transaction. The tables and the message area are lent by the host; the cache by value is a
 // window on them.
-// Every call asks document 01's questions of what it is handed; a refused call answers the number and changes nothing.
+// Every call asks document 01's questions of what it is handed; a refused call answers a `Refusal` and changes nothing.
+// `(tables, area, t)` go side by side: C interface, the host lends each. The calls of one shape are written out (no
+// plainer): each asks its own questions and makes its own change, and a closure would carry both.
 #![tactic(auto)]
 
 ghost use Rattle.std.specs.Prelude.{Ok, ◌≡◌, ◌+◌, ◌*◌, ◌<◌, ◌≤◌, length};
@@ -10,25 +12,34 @@ ghost use Rattle.anchors_cache.specs.Tables.{tables_bytes, info_row, anchors, in
 ghost use Rattle.anchors_cache.specs.Windows.{history_added, added_tables, added_area, any_places};
 ghost use Rattle.refusals.specs.Refusals.{number};
 ghost use Rattle.anchors_cache.specs.Answers.{done_of, popped_of, trimmed_of, anchor_answer_of, info_answer_of, id_answer_of, flag_answer_of};
-ghost use Rattle.anchors_cache.specs.Calls.{with_cache, on_zero, row_for, info_with, add_info_number, add_info_call, add_number, add_call, refusal, row_at, info_row_at, pop_call, pops_call, trim_call, clear_call, open_call, commit_call, rollback_call, close_call, last_info_call, info_at_ct_call, last_id_call, get_call, pending_call, pending_in_range_call, shown_info, shown_anchor, closed_transaction};
+ghost use Rattle.anchors_cache.specs.Calls.{with_cache, on_zero, row_for, info_with, add_info_number, add_info_call, add_number, add_call, refusal, row_at, info_row_at, pop_call, pops_call, trim_call, clear_call, open_call, commit_call, rollback_call, close_call, last_info_call, info_at_ct_call, last_id_call, get_call, pending_call, pending_in_range_call, entry_at, shown_info, closed_transaction};
 
+use anchors::Anchors;
 use cache_rules::{AUTHOR_BYTES, MAX_ANCHORS, MAX_HISTORY};
 use ext_types::{ChainTime, ExternalKey};
+use history::History;
 use refusals::Refusal;
 
+mod anchors;
+mod history;
 mod questions;
 mod tables;
 mod windows;
 
-// The lent tables: rows of 52 bytes of history, then rows of 50 bytes of cached anchors.
-pub const HISTORY_BYTES: usize = 52 * MAX_HISTORY;
+// The bytes of a history entry's row, and of a cached anchor's.
+pub const INFO_LEN: usize = 52;
 
-pub const ANCHOR_BYTES: usize = 50 * MAX_ANCHORS;
+pub const ANCHOR_LEN: usize = 50;
+
+// The lent tables: rows of history, then rows of cached anchors.
+pub const HISTORY_BYTES: usize = INFO_LEN * MAX_HISTORY;
+
+pub const ANCHOR_BYTES: usize = ANCHOR_LEN * MAX_ANCHORS;
 
 pub const TABLES_BYTES: usize = HISTORY_BYTES + ANCHOR_BYTES;
 
 // Where the cached anchors and the imported history stand in the tables, and the first cached message in the area, in
-// rows and messages.
+// rows and messages. Numbers and no slices: C interface, fixed memory; the host keeps them between calls.
 #[repr(C)]
 #[derive(Clone, Copy, Debug, PartialEq, Eq)]
 pub struct AnchorsCache {
@@ -40,7 +51,8 @@ pub struct AnchorsCache {
     pub pending: bool,
 }
 
-// `undo` is what a rollback restores; it and the mark mean nothing while no transaction is open.
+// `undo` is what a rollback restores; it and the mark mean nothing while no transaction is open. Flags and no enum:
+// C interface, document 01 names the forms.
 #[repr(C)]
 #[derive(Clone, Copy, Debug, PartialEq, Eq)]
 pub struct AnchorsCacheTransaction {
@@ -94,6 +106,22 @@ pub struct After<T> {
     pub state: AnchorsCacheTransaction,
 }
 
+// What stands for an anchor and an entry where there is none.
+pub const ZERO_ANCHOR: CachedAnchor = CachedAnchor {
+    id: 0,
+    chain_time: ChainTime(0),
+    ours: 0,
+    count: 0,
+    place: 0,
+};
+
+pub const ZERO_INFO: AnchorInfo = AnchorInfo {
+    id: 0,
+    ct: ChainTime(0),
+    all_exts_count: 0,
+    our_exts_count: 0,
+};
+
 const NO_CACHE: AnchorsCache = AnchorsCache {
     first: 0,
     len: 0,
@@ -123,6 +151,8 @@ pub fn check_cache(tables: &[u8], area: &[u8], t: AnchorsCacheTransaction) -> Re
 }
 
 // One row of the anchors' table, with the place that is given; past the table every number is 0.
+// Zeros and no `Option`: rule of the project, what the function promised stays.
+#[tactic(auto, using(std::proofs::lemmas::Bool::Decides::nat_tests), unfolding(crate::specs::Calls::row_at))]
 pub fn cached_row(tables: &[u8], i: usize, place: usize) -> CachedAnchor
     ensures { result ≡ row_at i place tables.now }
 {
@@ -130,27 +160,31 @@ pub fn cached_row(tables: &[u8], i: usize, place: usize) -> CachedAnchor
         return tables::anchor_at(tables, i, place);
     }
     CachedAnchor {
-        id: 0,
-        chain_time: ChainTime(0),
-        ours: 0,
-        count: 0,
         place,
+        ..ZERO_ANCHOR
     }
 }
 
-// One row of the history; past the table every number is 0.
+// One row of the history; past the table every number is 0, as of `cached_row`. `history_entry` answers an `Option`.
+#[tactic(auto, using(std::proofs::lemmas::Bool::Decides::nat_tests), unfolding(crate::specs::Calls::info_row_at))]
 pub fn history_row(tables: &[u8], i: usize) -> AnchorInfo
     ensures { result ≡ info_row_at i tables.now }
 {
     if tables::has_row(tables, i, MAX_HISTORY) {
         return tables::info_at(tables, i);
     }
-    AnchorInfo {
-        id: 0,
-        ct: ChainTime(0),
-        all_exts_count: 0,
-        our_exts_count: 0,
+    ZERO_INFO
+}
+
+// The same with who wrote it; past the table there is none.
+#[tactic(auto, using(std::proofs::lemmas::Bool::Decides::nat_tests), unfolding(crate::specs::Calls::shown_info))]
+pub fn history_entry(tables: &[u8], i: usize) -> Option<Authored<AnchorInfo>>
+    ensures { info_answer_of (Ok result) ≡ shown_info (entry_at i tables.now) }
+{
+    if !tables::has_row(tables, i, MAX_HISTORY) {
+        return None;
     }
+    Some(tables::entry_at(tables, i))
 }
 
 // The transaction with another cache.
@@ -168,8 +202,10 @@ pub fn add_imported_anchor_info(
     anchor_info: AnchorInfo,
     author: [u8; AUTHOR_BYTES],
 ) -> Result<AnchorsCacheTransaction, Refusal>
-    ensures { (done_of t result ≡ add_info_call (length area.now) tables.old t)
-        × (tables.new ≡ on_zero (add_info_number (length area.now) tables.old t) (history_added (info_row (info_with anchor_info author)) t.cache tables.old) tables.old) }
+    ensures { let row = info_row (info_with anchor_info author) in
+        let number = add_info_number (length area.now) tables.old t in
+        (done_of t result ≡ add_info_call (length area.now) tables.old t)
+        × (tables.new ≡ on_zero number (history_added row t.cache tables.old) tables.old) }
 {
     questions::check_add_info(tables, area.len(), t)?;
     let row = tables::info_row(anchor_info, author);
@@ -203,41 +239,8 @@ pub fn add(
     Ok(with_cache(t, cache))
 }
 
-// The anchor that is `i` behind the first of a window's `len` anchors.
-fn shown_anchor(
-    tables: &[u8],
-    first: usize,
-    len: usize,
-    base: usize,
-    i: usize,
-) -> Option<Authored<CachedAnchor>>
-    requires { (first + len ≤ max_anchors) × (tables_bytes ≤ length tables.now) × (base ≤ any_places) }
-    ensures { anchor_answer_of (Ok result) ≡ shown_anchor i base (anchors first len tables.now) }
-{
-    if len <= i {
-        return None;
-    }
-    let place = base + tables::total_count(tables, first, i);
-    let value = tables::anchor_at(tables, first + i, place);
-    let author = tables::author_at(tables, HISTORY_BYTES + 50 * (first + i) + 12);
-    Some(Authored { value, author })
-}
-
-// The last of `len` history entries.
-fn shown_info(tables: &[u8], first: usize, len: usize) -> Option<Authored<AnchorInfo>>
-    requires { (first + len ≤ max_history) × (tables_bytes ≤ length tables.now) }
-    ensures { info_answer_of (Ok result) ≡ shown_info (last_of (infos first len tables.now)) }
-{
-    if len == 0 {
-        return None;
-    }
-    let i = first + (len - 1);
-    let value = tables::info_at(tables, i);
-    let author = tables::author_at(tables, 52 * i + 20);
-    Some(Authored { value, author })
-}
-
 // The front anchor goes, then stale history.
+#[tactic(auto, using(crate::proofs::Refused::refused), unfolding(crate::specs::Calls::pop_call, crate::specs::Calls::pop_answer))]
 pub fn pop_front(
     tables: &[u8],
     area: &[u8],
@@ -247,12 +250,13 @@ pub fn pop_front(
 {
     questions::check(tables, area.len(), t)?;
     let c = t.cache;
-    let answer = shown_anchor(tables, c.first, c.len, c.base, 0);
     let state = with_cache(t, windows::popped_cache(tables, c));
+    let answer = Anchors::of(tables, c.first, c.len).shown(c.base, 0);
     Ok(After { answer, state })
 }
 
 // So many pops at once, as far as there are anchors.
+#[tactic(auto, using(crate::proofs::Refused::refused), unfolding(crate::specs::Calls::pops_call, crate::specs::Calls::answer))]
 pub fn pop_fronts(
     tables: &[u8],
     area: &[u8],
@@ -266,6 +270,7 @@ pub fn pop_fronts(
 }
 
 // Cached anchors and history entries above ct go from the back, never the last history entry.
+#[tactic(auto, using(crate::proofs::Refused::refused), unfolding(crate::specs::Calls::trim_call, crate::specs::Calls::trim_answer))]
 pub fn remove_last_imported_above(
     tables: &[u8],
     area: &[u8],
@@ -276,7 +281,7 @@ pub fn remove_last_imported_above(
 {
     questions::check(tables, area.len(), t)?;
     let c = windows::trimmed_cache(tables, t.cache, ct);
-    let answer = shown_info(tables, c.history_first, c.history_len);
+    let answer = History::of(tables, c.history_first, c.history_len).last();
     Ok(After {
         answer,
         state: with_cache(t, c),
@@ -284,7 +289,7 @@ pub fn remove_last_imported_above(
 }
 
 // The cache is emptied; no transaction may be open.
-#[tactic(auto, using(crate::proofs::Refused::done_refused, crate::proofs::Refused::flag_refused), unfolding(crate::specs::Calls::clear_call, crate::specs::Calls::answer))]
+#[tactic(auto, using(crate::proofs::Refused::refused), unfolding(crate::specs::Calls::clear_call, crate::specs::Calls::answer))]
 pub fn clear(
     tables: &[u8],
     area: &[u8],
@@ -296,7 +301,7 @@ pub fn clear(
     Ok(with_cache(t, NO_CACHE))
 }
 
-#[tactic(auto, using(crate::proofs::Refused::done_refused, crate::proofs::Refused::flag_refused), unfolding(crate::specs::Calls::open_call, crate::specs::Calls::answer))]
+#[tactic(auto, using(crate::proofs::Refused::refused), unfolding(crate::specs::Calls::open_call, crate::specs::Calls::answer))]
 pub fn open(
     tables: &[u8],
     area: &[u8],
@@ -314,7 +319,7 @@ pub fn open(
 }
 
 // Sets the mark, and ends nothing.
-#[tactic(auto, using(crate::proofs::Refused::done_refused, crate::proofs::Refused::flag_refused), unfolding(crate::specs::Calls::commit_call, crate::specs::Calls::answer))]
+#[tactic(auto, using(crate::proofs::Refused::refused), unfolding(crate::specs::Calls::commit_call, crate::specs::Calls::answer))]
 pub fn commit(
     tables: &[u8],
     area: &[u8],
@@ -330,7 +335,7 @@ pub fn commit(
 }
 
 // The cache as it was opened; the mark stays.
-#[tactic(auto, using(crate::proofs::Refused::done_refused, crate::proofs::Refused::flag_refused), unfolding(crate::specs::Calls::rollback_call, crate::specs::Calls::answer))]
+#[tactic(auto, using(crate::proofs::Refused::refused), unfolding(crate::specs::Calls::rollback_call, crate::specs::Calls::answer))]
 pub fn rollback(
     tables: &[u8],
     area: &[u8],
@@ -350,7 +355,7 @@ fn kept(committed: bool, present: AnchorsCache, opening: AnchorsCache) -> Anchor
 }
 
 // The Rust's drop: a rollback, unless the mark was ever set.
-#[tactic(auto, using(crate::proofs::Refused::done_refused, crate::proofs::Refused::flag_refused), unfolding(crate::specs::Calls::close_call, crate::specs::Calls::answer))]
+#[tactic(auto, using(crate::proofs::Refused::refused), unfolding(crate::specs::Calls::close_call, crate::specs::Calls::answer))]
 pub fn close(
     tables: &[u8],
     area: &[u8],
@@ -366,6 +371,7 @@ pub fn close(
     })
 }
 
+#[tactic(auto, using(crate::proofs::Refused::refused), unfolding(crate::specs::Calls::last_info_call, crate::specs::Calls::info_answer))]
 pub fn last_imported_anchor_info(
     tables: &[u8],
     t: AnchorsCacheTransaction,
@@ -374,10 +380,11 @@ pub fn last_imported_anchor_info(
 {
     questions::check_seen(tables, t)?;
     let c = t.cache;
-    Ok(shown_info(tables, c.history_first, c.history_len))
+    Ok(History::of(tables, c.history_first, c.history_len).last())
 }
 
 // The entry that a trim at ct would leave last.
+#[tactic(auto, using(crate::proofs::Refused::refused), unfolding(crate::specs::Calls::info_at_ct_call, crate::specs::Calls::info_answer))]
 pub fn last_imported_anchor_info_at_ct(
     tables: &[u8],
     t: AnchorsCacheTransaction,
@@ -387,8 +394,8 @@ pub fn last_imported_anchor_info_at_ct(
 {
     questions::check_seen(tables, t)?;
     let c = t.cache;
-    let kept = tables::history_kept_len(tables, c.history_first, c.history_len, ct);
-    Ok(shown_info(tables, c.history_first, kept))
+    let history = History::of(tables, c.history_first, c.history_len);
+    Ok(history.shown(history.kept_len(ct)))
 }
 
 pub fn get_last_imported_anchor_id_and_ct(
@@ -397,13 +404,12 @@ pub fn get_last_imported_anchor_id_and_ct(
 ) -> Result<Option<(u32, ChainTime)>, Refusal>
     ensures { id_answer_of result ≡ last_id_call tables.now t }
 {
-    let Some(entry) = last_imported_anchor_info(tables, t)? else {
-        return Ok(None);
-    };
-    Ok(Some((entry.value.id, entry.value.ct)))
+    let last = last_imported_anchor_info(tables, t)?;
+    Ok(last.map(|e| (e.value.id, e.value.ct)))
 }
 
 // The cached anchor at an index, the front at 0.
+#[tactic(auto, using(crate::proofs::Refused::refused), unfolding(crate::specs::Calls::get_call, crate::specs::Calls::get_answer))]
 pub fn get(
     tables: &[u8],
     t: AnchorsCacheTransaction,
@@ -413,10 +419,10 @@ pub fn get(
 {
     questions::check_seen(tables, t)?;
     let c = t.cache;
-    Ok(shown_anchor(tables, c.first, c.len, c.base, index))
+    Ok(Anchors::of(tables, c.first, c.len).shown(c.base, index))
 }
 
-#[tactic(auto, using(crate::proofs::Refused::done_refused, crate::proofs::Refused::flag_refused), unfolding(crate::specs::Calls::pending_call, crate::specs::Calls::flag_answer))]
+#[tactic(auto, using(crate::proofs::Refused::refused), unfolding(crate::specs::Calls::pending_call, crate::specs::Calls::flag_answer))]
 pub fn has_pending_externals(tables: &[u8], t: AnchorsCacheTransaction) -> Result<bool, Refusal>
     ensures { flag_answer_of result ≡ pending_call tables.now t }
 {
@@ -425,6 +431,7 @@ pub fn has_pending_externals(tables: &[u8], t: AnchorsCacheTransaction) -> Resul
 }
 
 // Some anchor up to the key has messages of ours. Ids rise and each cached anchor has some, so the front decides.
+#[tactic(auto, using(crate::proofs::Refused::refused), unfolding(crate::specs::Calls::pending_in_range_call, crate::specs::Calls::flag_answer))]
 pub fn check_has_pending_externals_in_range(
     tables: &[u8],
     t: AnchorsCacheTransaction,

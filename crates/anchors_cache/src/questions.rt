@@ -1,51 +1,25 @@
-// The questions of document 01 that the cache's calls ask: 1 and 5 to 9. The number 0 says that each is answered yes.
+// The questions of document 01 that the cache's calls ask: 1 and 5 to 9. A `Refusal` names the first that is
+// answered no.
 ghost use Rattle.std.specs.Prelude.{◌≡◌, ◌+◌, ◌*◌, ◌/◌, ◌<◌, ◌≤◌, ◌&&◌, leb, length};
-ghost use Rattle.cache_rules.specs.Rules.{max_anchors, max_history, same_bool, right_size, above_last, last_of, room};
+ghost use Rattle.cache_rules.specs.Rules.{max_anchors, max_history, right_size, room};
 ghost use Rattle.refusals.specs.Refusals.{number};
-ghost use Rattle.anchors_cache.specs.Tables.{tables_bytes, anchors};
-ghost use Rattle.anchors_cache.specs.Calls.{sound_anchor, sound_total, valid_cache, valid, refusal, refusal_at, refusal_seen, add_number, add_info_number};
+ghost use Rattle.anchors_cache.specs.Tables.{tables_bytes};
+ghost use Rattle.anchors_cache.specs.Calls.{valid_cache, valid, refusal, refusal_at, refusal_seen, add_number, add_info_number};
 
-use crate::{AnchorsCache, AnchorsCacheTransaction, CachedAnchor, tables};
+use crate::anchors::Anchors;
+use crate::{AnchorsCache, AnchorsCacheTransaction};
 use cache_rules::{AREA_BYTES, MAX_ANCHOR_MESSAGES, MAX_ANCHORS, MAX_HISTORY, MAX_MESSAGES};
 use refusals::Refusal;
+use rows::MESSAGE_LEN;
 
 // As many messages as any area can hold: what a call asks that is lent none.
-const ANY_PLACES: usize = usize::MAX / 33;
-
-pub(crate) fn same_bool(a: bool, b: bool) -> bool
-    ensures { result ≡ same_bool a b }
-{
-    a == b
-}
-
-// One anchor as question 5 wants it: its id is not below low, ours above 0 and at most the count, which is at most 512.
-fn is_sound(a: CachedAnchor, low: u64) -> bool
-    ensures { result ≡ sound_anchor low a }
-{
-    low <= a.id as u64 && 0 < a.ours && a.ours as usize <= a.count && a.count <= MAX_ANCHOR_MESSAGES
-}
-
-// The messages of anchors that are as question 5 wants them.
-fn sound_total(tables: &[u8], first: usize, len: usize) -> Option<usize>
-    requires { (first + len ≤ max_anchors) × (tables_bytes ≤ length tables.now) }
-    ensures { result ≡ sound_total 0 0 (anchors first len tables.now) }
-{
-    let mut low = 0;
-    let mut sum = 0;
-    for i in first..first + len {
-        let a = tables::anchor_at(tables, i, 0);
-        if !is_sound(a, low) {
-            return None;
-        }
-        low = a.id as u64 + 1;
-        sum += a.count;
-    }
-    Some(sum)
-}
+const ANY_PLACES: usize = usize::MAX / MESSAGE_LEN;
 
 // The lent tables are whole, and both windows lie in them.
 fn lies_within(tables: &[u8], c: AnchorsCache) -> bool
-    ensures { result ≡ (leb tables_bytes (length tables.now) && (leb (c.first + c.len) max_anchors && leb (c.history_first + c.history_len) max_history)) }
+    ensures { result
+        ≡ (leb tables_bytes (length tables.now)
+        && (leb (c.first + c.len) max_anchors && leb (c.history_first + c.history_len) max_history)) }
 {
     crate::TABLES_BYTES <= tables.len()
         && rows::sum_within(c.first, c.len, MAX_ANCHORS)
@@ -59,10 +33,10 @@ fn valid_cache(tables: &[u8], places: usize, c: AnchorsCache) -> bool
     if !lies_within(tables, c) {
         return false;
     }
-    let Some(sum) = sound_total(tables, c.first, c.len) else {
+    let Some(sum) = Anchors::of(tables, c.first, c.len).sound_count() else {
         return false;
     };
-    sum <= MAX_MESSAGES && rows::sum_within(c.base, sum, places) && same_bool(c.pending, 0 < c.len)
+    sum <= MAX_MESSAGES && rows::sum_within(c.base, sum, places) && c.pending == (0 < c.len)
 }
 
 // Also of what an open transaction's rollback restores, unless that is the cache as it is.
@@ -82,14 +56,14 @@ pub(crate) fn check(tables: &[u8], n: usize, t: AnchorsCacheTransaction) -> Resu
     if n < AREA_BYTES {
         return Err(Refusal::AreaTooShort);
     }
-    if !valid_state(tables, n / 33, t) {
+    if !valid_state(tables, n / MESSAGE_LEN, t) {
         return Err(Refusal::StateUnsound);
     }
     Ok(())
 }
 
 // Questions 1, 5 and 9: a transaction must be open, or none.
-#[tactic(auto, using(crate::proofs::Asked::same_beq, crate::proofs::Refused::number_refused), unfolding(crate::specs::Calls::refusal, crate::specs::Calls::refusal_at))]
+#[tactic(auto, using(crate::proofs::Refused::asked_at), unfolding(crate::specs::Calls::refusal, crate::specs::Calls::refusal_at))]
 pub(crate) fn check_at(
     tables: &[u8],
     n: usize,
@@ -121,16 +95,9 @@ pub(crate) fn check_seen(tables: &[u8], t: AnchorsCacheTransaction) -> Result<()
 fn right_size(ours: u32, k: usize) -> bool
     ensures { result ≡ right_size ours k }
 {
-    k <= 33 * MAX_ANCHOR_MESSAGES && k % 33 == 0 && ours as usize <= k / 33
-}
-
-// Question 7.
-#[tactic(auto, using(std::proofs::lemmas::Bool::Decides::nat_tests, crate::proofs::Laws::anchors_none, crate::proofs::Laws::last_anchor), unfolding(cache_rules::specs::Rules::last_of))]
-fn is_above(tables: &[u8], first: usize, len: usize, id: u32) -> bool
-    requires { (first + len ≤ max_anchors) × (tables_bytes ≤ length tables.now) }
-    ensures { result ≡ above_last id (last_of (anchors first len tables.now)) }
-{
-    len == 0 || tables::anchor_at(tables, first + (len - 1), 0).id < id
+    k <= MESSAGE_LEN * MAX_ANCHOR_MESSAGES
+        && k % MESSAGE_LEN == 0
+        && ours as usize <= k / MESSAGE_LEN
 }
 
 // Question 8: the caps, with one anchor more.
@@ -143,6 +110,7 @@ fn has_room(anchors: usize, messages: usize, history: usize, ours: u32, count: u
 }
 
 // Questions 1 and 5 to 9, of an anchor with k bytes of messages.
+#[tactic(auto, using(crate::proofs::Asked::add_six, crate::proofs::Asked::add_seven, crate::proofs::Asked::add_eight, crate::proofs::Asked::add_nine, crate::proofs::Asked::add_zero))]
 pub(crate) fn check_add(
     tables: &[u8],
     n: usize,
@@ -158,11 +126,11 @@ pub(crate) fn check_add(
         return Err(Refusal::MessagesUnsound);
     }
     let c = t.cache;
-    if !is_above(tables, c.first, c.len, id) {
+    let anchors = Anchors::of(tables, c.first, c.len);
+    if !anchors.is_below(id) {
         return Err(Refusal::IdNotAbove);
     }
-    let used = tables::total_count(tables, c.first, c.len);
-    if !has_room(c.len, used, c.history_len, ours, k / 33) {
+    if !has_room(c.len, anchors.count(), c.history_len, ours, k / MESSAGE_LEN) {
         return Err(Refusal::CacheFull);
     }
     if t.active {

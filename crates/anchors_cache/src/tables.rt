@@ -1,14 +1,20 @@
 // Rows of the lent tables: 256 of 52 bytes of history, then 32 of 50 bytes of cached anchors.
-ghost use Rattle.std.specs.Prelude.{◌≡◌, ◌+◌, ◌*◌, ◌/◌, ◌<◌, ◌≤◌, ◌&&◌, ltb, leb, length};
+// That the tables are whole stands in each contract (no plainer): `Anchors` and `History` hold it, and lend the slice.
+ghost use Rattle.std.specs.Prelude.{Ok, Some, ◌≡◌, ◌+◌, ◌*◌, ◌/◌, ◌<◌, ◌≤◌, ◌&&◌, ltb, leb, length};
+ghost use Rattle.std.proofs.Math.Option.{some};
 ghost use Rattle.rows.specs.Rows.{part};
-ghost use Rattle.cache_rules.specs.Rules.{max_anchor_messages, max_history, max_anchors, drop_stale, trim_back, trim_history, total, author_bytes};
-ghost use Rattle.anchors_cache.specs.Tables.{tables_bytes, anchor_row, info_row, anchors, infos, anchor_at, info_at};
-ghost use Rattle.anchors_cache.specs.Windows.{row_time};
-ghost use Rattle.anchors_cache.specs.Calls.{cached_anchor, anchor_info_of, info_with, row_for};
+ghost use Rattle.cache_rules.specs.Rules.{max_anchor_messages, max_history, max_anchors, author_bytes};
+ghost use Rattle.anchors_cache.specs.Tables.{tables_bytes, anchor_row, info_row, anchor_at, info_at};
+ghost use Rattle.anchors_cache.specs.Answers.{info_answer_of};
+ghost use Rattle.anchors_cache.specs.Calls.{cached_anchor, anchor_info_of, info_with, row_for, shown_info};
 
-use crate::{AnchorInfo, CachedAnchor, HISTORY_BYTES, MempoolAnchor, TABLES_BYTES};
+use crate::{
+    ANCHOR_LEN, AnchorInfo, Authored, CachedAnchor, HISTORY_BYTES, INFO_LEN, MempoolAnchor,
+    TABLES_BYTES,
+};
 use cache_rules::AUTHOR_BYTES;
 use ext_types::ChainTime;
+use rows::MESSAGE_LEN;
 
 // Whether a table of `cap` rows has one at an index.
 pub(crate) fn has_row(tables: &[u8], i: usize, cap: usize) -> bool
@@ -18,28 +24,30 @@ pub(crate) fn has_row(tables: &[u8], i: usize, cap: usize) -> bool
 }
 
 // The anchor in a row, with the place of its first message.
+#[tactic(auto, using(crate::proofs::Laws::row_num))]
 pub(crate) fn anchor_at(tables: &[u8], i: usize, place: usize) -> CachedAnchor
     requires { (i < max_anchors) × (tables_bytes ≤ length tables.now) }
     ensures { (result ≡ cached_anchor place (anchor_at i tables.now)) × (result.count < 65536) }
 {
-    let at = HISTORY_BYTES + 50 * i;
-    let row = &tables[at..at + 50];
+    let at = HISTORY_BYTES + ANCHOR_LEN * i;
+    let row = &tables[at..at + ANCHOR_LEN];
     CachedAnchor {
         id: rows::num_at::<u32>(row, 0),
         chain_time: ChainTime(rows::num_at::<u64>(row, 4)),
         ours: rows::num_at::<u32>(row, 44),
-        count: rows::num_at::<u16>(row, 48) as usize,
+        count: usize::from(rows::num_at::<u16>(row, 48)),
         place,
     }
 }
 
 // The history entry in a row.
+#[tactic(auto, using(crate::proofs::Laws::row_num))]
 pub(crate) fn info_at(tables: &[u8], i: usize) -> AnchorInfo
     requires { (i < max_history) × (tables_bytes ≤ length tables.now) }
     ensures { result ≡ anchor_info_of (info_at i tables.now) }
 {
-    let at = 52 * i;
-    let row = &tables[at..at + 52];
+    let at = INFO_LEN * i;
+    let row = &tables[at..at + INFO_LEN];
     AnchorInfo {
         id: rows::num_at::<u32>(row, 0),
         ct: ChainTime(rows::num_at::<u64>(row, 4)),
@@ -48,89 +56,56 @@ pub(crate) fn info_at(tables: &[u8], i: usize) -> AnchorInfo
     }
 }
 
-// The 32 bytes from a place of the tables.
-pub(crate) fn author_at(tables: &[u8], at: usize) -> [u8; AUTHOR_BYTES]
+// The 32 bytes from a place of the tables. Tried: `first_chunk`, which tests the length again (14 instructions a pop).
+fn author_at(tables: &[u8], at: usize) -> [u8; AUTHOR_BYTES]
     requires { at + author_bytes ≤ length tables.now }
     ensures { result ≡ part at author_bytes tables.now }
 {
-    let mut author = [0u8; AUTHOR_BYTES];
-    rows::copy_in(&mut author, 0, &tables[at..at + AUTHOR_BYTES]);
+    let mut author = [0; AUTHOR_BYTES];
+    author.copy_from_slice(&tables[at..at + AUTHOR_BYTES]);
     author
 }
 
-// How many history entries stay where an anchor of chain time ct is popped; the last one always does.
-pub(crate) fn fresh_len(tables: &[u8], first: usize, len: usize, ct: ChainTime) -> usize
-    requires { (first + len ≤ max_history) × (tables_bytes ≤ length tables.now) }
-    ensures { result ≡ length (drop_stale ct.0 (infos first len tables.now)) }
+// Who wrote the anchor in a row.
+pub(crate) fn anchor_author(tables: &[u8], i: usize) -> [u8; AUTHOR_BYTES]
+    requires { (i < max_anchors) × (tables_bytes ≤ length tables.now) }
+    ensures { result ≡ (anchor_at i tables.now).author }
 {
-    for gone in 0..len.saturating_sub(1) {
-        if ct.0 <= info_at(tables, first + gone).ct.0 {
-            return len - gone;
-        }
-    }
-    len.min(1)
+    author_at(tables, HISTORY_BYTES + ANCHOR_LEN * i + 12)
 }
 
-// How many cached anchors stay where those above ct go from the back.
-pub(crate) fn kept_len(tables: &[u8], first: usize, len: usize, ct: ChainTime) -> usize
-    requires { (first + len ≤ max_anchors) × (tables_bytes ≤ length tables.now) }
-    ensures { result ≡ length (trim_back row_time ct.0 (anchors first len tables.now)) }
+// The history entry in a row, and who wrote it.
+pub(crate) fn entry_at(tables: &[u8], i: usize) -> Authored<AnchorInfo>
+    requires { (i < max_history) × (tables_bytes ≤ length tables.now) }
+    ensures { info_answer_of (Ok (Some result)) ≡ shown_info (some (info_at i tables.now)) }
 {
-    for last in (0..len).rev() {
-        if anchor_at(tables, first + last, 0).chain_time.0 <= ct.0 {
-            return last + 1;
-        }
-    }
-    0
-}
-
-// The same for the history, whose front stays.
-pub(crate) fn history_kept_len(tables: &[u8], first: usize, len: usize, ct: ChainTime) -> usize
-    requires { (first + len ≤ max_history) × (tables_bytes ≤ length tables.now) }
-    ensures { result ≡ length (trim_history ct.0 (infos first len tables.now)) }
-{
-    for last in (1..len).rev() {
-        if info_at(tables, first + last).ct.0 <= ct.0 {
-            return last + 1;
-        }
-    }
-    len.min(1)
-}
-
-// The messages of anchors.
-pub(crate) fn total_count(tables: &[u8], first: usize, len: usize) -> usize
-    requires { (first + len ≤ max_anchors) × (tables_bytes ≤ length tables.now) }
-    ensures { (result ≡ total (anchors first len tables.now)) × (result ≤ 65535 * len) }
-{
-    let mut sum = 0;
-    for i in first..first + len {
-        sum += anchor_at(tables, i, 0).count;
-    }
-    sum
+    let value = info_at(tables, i);
+    let author = author_at(tables, INFO_LEN * i + 20);
+    Authored { value, author }
 }
 
 // A history entry's row; the author stands beside the entry.
-pub(crate) fn info_row(e: AnchorInfo, author: [u8; AUTHOR_BYTES]) -> [u8; 52]
+pub(crate) fn info_row(e: AnchorInfo, author: [u8; AUTHOR_BYTES]) -> [u8; INFO_LEN]
     ensures { result ≡ info_row (info_with e author) }
 {
-    let mut row = [0u8; 52];
-    rows::put_le(&mut row, 0, e.id as u64, 4);
-    rows::put_le(&mut row, 4, e.ct.0, 8);
-    rows::put_le(&mut row, 12, e.all_exts_count as u64, 4);
-    rows::put_le(&mut row, 16, e.our_exts_count as u64, 4);
+    let mut row = [0u8; INFO_LEN];
+    rows::put(&mut row, 0, e.id);
+    rows::put(&mut row, 4, e.ct.0);
+    rows::put(&mut row, 12, e.all_exts_count);
+    rows::put(&mut row, 16, e.our_exts_count);
     rows::copy_in(&mut row, 20, &author);
     row
 }
 
-pub(crate) fn anchor_row(a: MempoolAnchor, ours: u32, k: usize) -> [u8; 50]
+pub(crate) fn anchor_row(a: MempoolAnchor, ours: u32, k: usize) -> [u8; ANCHOR_LEN]
     requires { k ≤ 33 * max_anchor_messages }
     ensures { result ≡ anchor_row (row_for a ours k) }
 {
-    let mut row = [0u8; 50];
-    rows::put_le(&mut row, 0, a.id as u64, 4);
-    rows::put_le(&mut row, 4, a.chain_time.0, 8);
+    let mut row = [0u8; ANCHOR_LEN];
+    rows::put(&mut row, 0, a.id);
+    rows::put(&mut row, 4, a.chain_time.0);
     rows::copy_in(&mut row, 12, &a.author);
-    rows::put_le(&mut row, 44, ours as u64, 4);
-    rows::put_le(&mut row, 48, (k / 33) as u64, 2);
+    rows::put(&mut row, 44, ours);
+    rows::put(&mut row, 48, (k / MESSAGE_LEN) as u16);
     row
 }

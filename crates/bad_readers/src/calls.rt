@@ -4,10 +4,11 @@ use crate::state::Case;
 use externals_reader::{check_settings, check_state};
 use reader_rules::ExternalsReader;
 use reader_rules::GetNextMessageGroupMode::{Continue, Refill};
-use refusals::Refusal;
+use refusals::{Refusal, number};
 use std::fmt;
 
-// The number of a call; or a refused one changed something.
+// The number of a call; or a refused one changed something. bad_states has one of its own: the two programs share no
+// crate but those that they test (no plainer).
 #[derive(Clone, Copy, Debug, PartialEq, Eq)]
 pub enum Answer {
     Number(u8),
@@ -23,26 +24,11 @@ impl fmt::Display for Answer {
     }
 }
 
-fn number<T: Copy>(answer: Result<T, Refusal>) -> u8 {
-    answer.err().map_or(0, u8::from)
-}
-
-fn new(reader: ExternalsReader) -> Result<ExternalsReader, Refusal> {
-    externals_reader::new(
-        reader.for_shard_id,
-        reader.block_seqno,
-        reader.next_chain_time,
-        reader.msgs_exec_params,
-        reader.buffer_limits_by_partitions,
-        reader.reader_state,
-    )
-}
-
 // Columns 2 to 8.
 fn of_reader(case: Case, reader: ExternalsReader) -> [u8; 7] {
     [
         number(check_settings(case.limits(), case.most)),
-        number(new(reader)),
+        number(externals_reader::renew(reader)),
         number(externals_reader::reset_read_state(reader)),
         number(externals_reader::drop_last_read_to_anchor_chain_time(reader)),
         number(externals_reader::set_buffer_limits_by_partition(reader, case.limits())),

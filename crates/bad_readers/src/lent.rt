@@ -4,9 +4,11 @@ use crate::state::{Case, sound};
 use anchors_cache::TABLES_BYTES;
 use cache_rules::AREA_BYTES;
 use externals_reader::ReadIntoBuffers;
+use range_reader::Lent;
 use reader_rules::GetNextMessageGroupMode::{Continue, Refill};
 use reader_rules::{ExternalsReader, GetNextMessageGroupMode, MsgsExecutionParams};
 use refusals::Refusal;
+use router::{MAX_ROUTES, ROUTE_LEN};
 use std::io;
 
 // No byte of the output is so before a read.
@@ -16,14 +18,17 @@ pub fn has_pending(case: Case, reader: ExternalsReader) -> Result<bool, Refusal>
     reader_offsets::has_pending_externals(&[0; TABLES_BYTES], case.transaction(), reader)
 }
 
-// 257 routes whose accounts differ, but for what the case says of the first two.
-fn routes(case: Case) -> [u8; 8738] {
-    let mut all = [0; 8738];
-    for (account, row) in (0..257).zip(all.chunks_exact_mut(34)) {
-        rows::put_le(row, 1, account, 2);
+// One route more than may be.
+pub const LONG_ROUTES: usize = ROUTE_LEN * (MAX_ROUTES + 1);
+
+// Routes whose accounts differ, but for what the case says of the first two.
+fn routes(case: Case) -> [u8; LONG_ROUTES] {
+    let mut all = [0; LONG_ROUTES];
+    for (account, row) in (0u16..).zip(all.chunks_exact_mut(ROUTE_LEN)) {
+        rows::put(row, 1, account);
     }
-    rows::put_le(&mut all, 35, case.route, 2);
-    all[33] = case.route_partition;
+    rows::put(&mut all, 35, case.route);
+    all[ROUTE_LEN - 1] = case.route_partition;
     all
 }
 
@@ -35,15 +40,12 @@ fn read(
 ) -> Result<ReadIntoBuffers, Refusal> {
     let area = [0; AREA_BYTES];
     let routes = routes(case);
-    externals_reader::read_into_buffers(
-        &[0; TABLES_BYTES],
-        &area[..case.area.min(area.len())],
-        case.transaction(),
-        &routes[..case.routes.min(routes.len())],
-        case.reader(),
-        mode,
-        out,
-    )
+    let lent = Lent {
+        tables: &[0; TABLES_BYTES],
+        area: &area[..case.area.min(area.len())],
+        routes: &routes[..case.routes.min(routes.len())],
+    };
+    externals_reader::read_into_buffers(lent, case.transaction(), case.reader(), mode, out)
 }
 
 // A refused read leaves every byte of the output.
@@ -68,12 +70,11 @@ fn put_read(
         Refill => "refill",
     };
     let mut output = UNTOUCHED;
-    let (number, reader) = match read(case, mode, &mut output) {
-        Ok(done) => (0, done.reader),
-        Err(refusal) => (u8::from(refusal), case.reader()),
-    };
+    let answer = read(case, mode, &mut output);
+    let number = refusals::number(answer);
+    let reader = answer.map_or(case.reader(), |done| done.reader);
     let held = reader.reader_state;
-    let last = held.len.checked_sub(1).and_then(|i| held.ranges.get(i));
+    let last = held.ranges.get(..held.len).and_then(|all| all.last());
     let is_read = u8::from(last.is_some_and(|range| range.fully_read));
     let mark = u8::from(reader.all_ranges_fully_read);
     println!(rt; "{word} {name} {number} {mark} {} {is_read}", held.len)

@@ -6,10 +6,14 @@ mod lent;
 mod state;
 
 use cache_rules::AREA_BYTES;
+use lent::LONG_ROUTES;
+use router::ROUTE_LEN;
 use state::{Case, sound};
 use std::io;
 
 const SHORT_AREA: usize = AREA_BYTES - 1;
+
+const MOST_ROUTES: usize = LONG_ROUTES - ROUTE_LEN;
 
 // The prefix of a half of a workchain.
 const HALF: u64 = 1 << 62;
@@ -112,9 +116,13 @@ fn put_lent(rt: &impl Print) -> io::Result<()> {
 }
 
 fn put_routes(rt: &impl Print) -> io::Result<()> {
-    put_case(rt, "routes_256", sound().with(|c| c.routes = 8704))?;
-    put_case(rt, "routes_257", sound().with(|c| c.routes = 8738))?;
-    put_case(rt, "routes_35_bytes", sound().with(|c| c.routes = 35))?;
+    put_case(rt, "routes_256", sound().with(|c| c.routes = MOST_ROUTES))?;
+    put_case(rt, "routes_257", sound().with(|c| c.routes = LONG_ROUTES))?;
+    put_case(
+        rt,
+        "routes_35_bytes",
+        sound().with(|c| c.routes = ROUTE_LEN + 1),
+    )?;
     let partition_8 = sound().with(|c| c.route_partition = 8);
     put_case(rt, "routes_partition_8", partition_8)?;
     let twice = sound().with(|c| c.route = 0);

@@ -8,7 +8,9 @@ use reader_rules::{
     ExternalsPartitionReaderState, ExternalsReader, ExternalsReaderState, MAX_RANGES,
     MsgsExecutionParams,
 };
+use router::ROUTE_LEN;
 use shard_ident::ShardIdent;
+use std::array;
 
 // `len` ranges; the seqno of the second; the seqno and the count of partition 0 in the sixth slot, which is free;
 // count, presence and limit of partition 3; whether partition 7 is there, and partition 0 in the last range and in the
@@ -40,7 +42,7 @@ pub struct Case {
     pub active: bool,
     pub cached: usize,
     pub routes: usize,
-    pub route: u64,
+    pub route: u16,
     pub route_partition: u8,
 }
 
@@ -71,7 +73,7 @@ pub fn sound() -> Case {
         area: AREA_BYTES,
         active: true,
         cached: 0,
-        routes: 68,
+        routes: 2 * ROUTE_LEN,
         route: 1,
         route_partition: 0,
     }
@@ -124,10 +126,7 @@ impl Case {
 
     // The seqnos are 1, 2, and so on, but for the case's.
     fn ranges(self) -> [ExternalsRangeReaderState; MAX_RANGES] {
-        let mut all = [self.range(1, true, 1); MAX_RANGES];
-        for (range, seqno) in all.iter_mut().zip(1..=16) {
-            range.seqno = seqno;
-        }
+        let mut all: [_; MAX_RANGES] = array::from_fn(|i| self.range(i as u32 + 1, true, 1));
         all[1] = self.range(self.second, self.in_last, 1);
         all[5] = self.range(self.free_seqno, true, self.free_count);
         all

@@ -1,8 +1,10 @@
 // Every call of the cache on one state, and what they answer.
 use crate::state;
 use anchors_cache::{AnchorInfo, AnchorsCacheTransaction, MempoolAnchor};
+use cache_rules::{AUTHOR_BYTES, MAX_ANCHOR_MESSAGES};
 use ext_types::{ChainTime, ExternalKey};
-use refusals::Refusal;
+use refusals::number;
+use rows::MESSAGE_LEN;
 use std::fmt;
 
 // How many bytes of the tables and of the area are lent, and the state that is handed in.
@@ -21,7 +23,7 @@ pub struct New {
     pub bytes: usize,
 }
 
-// The number of a call; or a refused one changed what it was lent.
+// The number of a call; or a refused one changed what it was lent, which no `Result` with a refusal says (no plainer).
 #[derive(Clone, Copy, Debug, PartialEq, Eq)]
 pub enum Answer {
     Number(u8),
@@ -37,21 +39,17 @@ impl fmt::Display for Answer {
     }
 }
 
-fn number<T: Copy>(answer: Result<T, Refusal>) -> u8 {
-    answer.err().map_or(0, u8::from)
-}
-
 // A refused add leaves every byte of tables and area.
 pub fn add(case: Case, new: New) -> Answer {
     let mut tables = state::tables();
     let mut area = state::area();
     let (n, m) = (case.tables.min(tables.len()), case.area.min(area.len()));
-    let messages = [9; 16_929];
+    let messages = [9; MESSAGE_LEN * (MAX_ANCHOR_MESSAGES + 1)];
     let k = new.bytes.min(messages.len());
     let anchor = MempoolAnchor {
         id: new.id,
         chain_time: ChainTime(5000),
-        author: [9; 32],
+        author: [9; AUTHOR_BYTES],
     };
     let added = anchors_cache::add(
         &mut tables[..n],
@@ -83,7 +81,7 @@ fn add_info(case: Case) -> Answer {
         &area[..m],
         case.t,
         info,
-        [9; 32],
+        [9; AUTHOR_BYTES],
     );
     if added.is_err() && tables != state::tables() {
         return Answer::Changed;
@@ -132,7 +130,7 @@ impl fmt::Display for Case {
         let new = New {
             id: 1000,
             ours: 1,
-            bytes: 33,
+            bytes: MESSAGE_LEN,
         };
         write!(f, "{}", add(*self, new))?;
         for number in changes(tables, area, self.t) {

@@ -1,5 +1,9 @@
 // What the cases hand in: tables with sound and unsound anchor rows, an area, windows on them.
-use anchors_cache::{AnchorsCache, AnchorsCacheTransaction, HISTORY_BYTES, TABLES_BYTES};
+use anchors_cache::{
+    ANCHOR_LEN, AnchorsCache, AnchorsCacheTransaction, HISTORY_BYTES, TABLES_BYTES,
+};
+use cache_rules::{MAX_ANCHORS, MAX_HISTORY, MAX_MESSAGES};
+use std::array;
 
 // The longest area that is lent.
 pub const LONG_AREA: usize = 40_000;
@@ -24,7 +28,7 @@ fn ours_of(i: u32) -> u32 {
 }
 
 // Row 7 is above the cap of an anchor, row 8 at it; rows 8 and 9 are at the cap of the cache, rows 8 to 10 above it.
-fn count_of(i: u32) -> u32 {
+fn count_of(i: u32) -> u16 {
     match i {
         0 => 2,
         1 => 3,
@@ -38,24 +42,20 @@ fn count_of(i: u32) -> u32 {
     }
 }
 
-// The anchors' rows of 50 bytes stand behind the history.
+// The anchors' rows stand behind the history.
 pub fn tables() -> [u8; TABLES_BYTES] {
     let mut all = [7; TABLES_BYTES];
-    for (i, row) in (0..32).zip(all[HISTORY_BYTES..].chunks_exact_mut(50)) {
-        rows::put_le(row, 0, u64::from(id_of(i)), 4);
-        rows::put_le(row, 44, u64::from(ours_of(i)), 4);
-        rows::put_le(row, 48, u64::from(count_of(i)), 2);
+    for (i, row) in (0..32).zip(all[HISTORY_BYTES..].chunks_exact_mut(ANCHOR_LEN)) {
+        rows::put(row, 0, id_of(i));
+        rows::put(row, 44, ours_of(i));
+        rows::put(row, 48, count_of(i));
     }
     all
 }
 
 // Not all alike, so that a move within the area would show.
 pub fn area() -> [u8; LONG_AREA] {
-    let mut all = [0; LONG_AREA];
-    for (i, byte) in all.iter_mut().enumerate() {
-        *byte = (i % 251) as u8;
-    }
-    all
+    array::from_fn(|i| (i % 251) as u8)
 }
 
 // Rows 0 to 2, of 2, 3 and 4 messages from place 10 on, and four history entries.
@@ -108,11 +108,11 @@ pub fn not_pending() -> AnchorsCache {
 // None cached, and each table's end named.
 pub fn empty_at_end() -> AnchorsCache {
     AnchorsCache {
-        first: 32,
+        first: MAX_ANCHORS,
         len: 0,
-        history_first: 256,
+        history_first: MAX_HISTORY,
         history_len: 0,
-        base: 1024,
+        base: MAX_MESSAGES,
         pending: false,
     }
 }

@@ -15,6 +15,7 @@ use lib.Seq.{take-length, drop-cons, get_or-drop, length-take-le, take-suc, take
 use mir.Syntax.{w8}
 use mir.Val.{SFits}
 use borrow.Author.Tests.{ltb-true, lt-ltb, le-ltb}
+use Rattle.std.proofs.lemmas.List.{map-append}
 use Rattle.rows.specs.Rows.{pick, same_bytes, starts_with, rows}
 use Rattle.rows.proofs.Laws.{pick_yes, pick_no, never}
 use Rattle.shard_ident.specs.Shard.{signed_byte, equalℤ}
@@ -64,6 +65,9 @@ module _ (l : List Route) (i : ℕ) where
   pub none_refused : length l ≤ i → takes_all (take i l) (drop i l) ≡ takes_all [] l → 0 ≡ records_number l
   unfolding records_number takes_all
   none_refused h so_far = ap (λ (b : Bool). pick b 0 3) (ap (takes_all (take i l)) (sym (drop_of_length-le l {i = i} h)) ∙ so_far)
+
+-- a record more, one that is refused, and none
+pub ruleset question_3 = (takes_more, refused_at, none_refused)
 
 -- ---- the call
 -- a refusal gives only its number
@@ -302,10 +306,6 @@ listed_agree (r ∷ l) w account are fw =
     go true c = refl
     go false c = refl
 
-map_behind : (l : List Route) (r : Route) → map route_row (l ++ (r ∷ [])) ≡ map route_row l ++ (route_row r ∷ [])
-map_behind [] r = refl
-map_behind (x ∷ l) r = ap (λ (k : List (List ℕ)). route_row x ∷ k) (map_behind l r)
-
 are_behind : (l : List Route) (r : Route) → AreRoutes l → AreRoutes (r ∷ []) → AreRoutes (l ++ (r ∷ []))
 are_behind [] r are one = one
 are_behind (x ∷ l) r are one = (are.0, are_behind l r are.1 one)
@@ -320,7 +320,7 @@ all_taken : (before l : List Route) → AreRoutes before → AreRoutes l → sou
 unfolding takes_all
 all_taken before [] are more e = sym (ap sound_routes (append-nil (map route_row before)) ∙ e)
 all_taken before (r ∷ l) are more e =
-    go (takes_one before r) (one_taken before r are (more.0, tt) e) (λ h. all_taken (before ++ (r ∷ [])) l (are_behind before r are (more.0, tt)) more.1 (ap sound_routes (map_behind before r) ∙ h))
+    go (takes_one before r) (one_taken before r are (more.0, tt) e) (λ h. all_taken (before ++ (r ∷ [])) l (are_behind before r are (more.0, tt)) more.1 (ap sound_routes (map-append route_row before (r ∷ [])) ∙ h))
   where
     first : List (List ℕ)
     first = map route_row before ++ (route_row r ∷ [])
@@ -337,7 +337,7 @@ all_taken before (r ∷ l) are more e =
 
     go : (b : Bool) → sound_routes first ≡ b → (sound_routes first ≡ true → takes_all (before ++ (r ∷ [])) l ≡ sound_routes (map route_row (before ++ (r ∷ [])) ++ rest))
         → (b && takes_all (before ++ (r ∷ [])) l) ≡ sound_routes (map route_row before ++ (route_row r ∷ rest))
-    go true h next = next h ∙ ap (λ (k : List (List ℕ)). sound_routes (k ++ rest)) (map_behind before r) ∙ together
+    go true h next = next h ∙ ap (λ (k : List (List ℕ)). sound_routes (k ++ rest)) (map-append route_row before (r ∷ [])) ∙ together
     go false h next = refused (sound_routes (first ++ rest)) refl h ∙ together
 
 -- Records pass question 3 exactly if their rows do.

@@ -17,6 +17,7 @@ use router::{MAX_PARTITION, MAX_ROUTES};
 
 // Each of the six takes the transaction by reference and changes it: what the core leaves is stored behind `t`, the
 // rest is the answer. A refused call leaves the transaction as it was.
+// The two clauses stand in each: no plainer by one name, which would still take the call, the number and `t.new`.
 pub fn open(t: &mut AnchorsCacheTransaction, tables: &[u8], area: &[u8]) -> Result<(), Refusal>
     ensures { (number result ≡ (open_call (length area.now) tables.now t.old).number)
         × (t.new ≡ (open_call (length area.now) tables.now t.old).state) }
@@ -137,7 +138,7 @@ fn takes_one(before: &[Route], r: &Route) -> bool
 }
 
 // Question 3 of route records.
-#[tactic(auto, using(crate::proofs::Routes::takes_more, crate::proofs::Routes::refused_at, crate::proofs::Routes::none_refused))]
+#[tactic(auto, using(crate::proofs::Routes::question_3))]
 fn check_routes(routes: &[Route]) -> Result<(), Refusal>
     ensures { number result ≡ records_number routes.now }
 {
@@ -158,7 +159,8 @@ pub fn get_partition(routes: &[Route], workchain: i8, account: [u8; 32]) -> Resu
     Ok(first.map_or(0, |r| r.partition))
 }
 
-// Lends its own routes, for whoever has them by value.
+// Lends its own routes, for whoever has them by value. Four, as its one caller has: a const parameter is no plainer,
+// for `get_partition` takes any number.
 pub fn partition_of4(routes: [Route; 4], workchain: i8, account: [u8; 32]) -> Result<u8, Refusal>
     ensures { answer_of result ≡ get_partition_in routes workchain account }
 {

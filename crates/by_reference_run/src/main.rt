@@ -6,16 +6,17 @@ ghost use Rattle.std.specs.Prelude.{◌≤◌};
 
 use anchors_cache::{AnchorsCacheTransaction, Authored, MempoolAnchor, TABLES_BYTES};
 use by_reference::Route;
-use cache_rules::AREA_BYTES;
+use cache_rules::{AREA_BYTES, AUTHOR_BYTES};
 use ext_types::ChainTime;
 use refusals::Refusal;
+use rows::MESSAGE_LEN;
 use std::io;
 
 fn print_number(rt: &impl Print, name: &str, number: u8) -> io::Result<()> {
     println!(rt; "{name} {number}")
 }
 
-fn print_done(rt: &impl Print, name: &str, done: Result<(), Refusal>) -> io::Result<()> {
+fn print_done<T: Drop>(rt: &impl Print, name: &str, done: Result<T, Refusal>) -> io::Result<()> {
     print_number(rt, name, refusals::number(done))
 }
 
@@ -66,12 +67,12 @@ impl Run {
         let anchor = MempoolAnchor {
             id,
             chain_time: ChainTime(1000 * u64::from(id)),
-            author: [0; 32],
+            author: [0; AUTHOR_BYTES],
         };
         let (tables, area) = (&mut self.tables, &mut self.area);
         let left = anchors_cache::add(tables, area, self.t, anchor, ours, messages);
         self.t = left.unwrap_or(self.t);
-        print_done(rt, "add", left.map(|_| ()))
+        print_done(rt, "add", left)
     }
 
     // All six calls on the first bytes of the area, their answers and what they leave.
@@ -94,7 +95,7 @@ impl Run {
 // The third anchor has no message of ours. The second round's area is one byte too short.
 fn cached(rt: &impl Print) -> io::Result<()> {
     let mut run = Run::new();
-    let message = [0; 33];
+    let message = [0; MESSAGE_LEN];
     run.add(rt, 1, 1, &message)?;
     run.add(rt, 2, 1, &message)?;
     run.add(rt, 3, 0, b"")?;

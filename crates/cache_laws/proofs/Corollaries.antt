@@ -5,6 +5,7 @@ use mathlib.Core.Path.{◌≡◌, refl, sym, ap, ◌∙◌}
 use mathlib.Core.Bool.{Bool, true, false, ◌||◌}
 use mathlib.Core.List.{List, [], ◌∷◌, ◌++◌, map}
 use lib.ListN.{length}
+use Rattle.std.proofs.Math.Bool.{or_assoc, or-false, or-true}
 use Rattle.rows.specs.Rows.{pick}
 use Rattle.anchors_cache.specs.declared.AnchorsCacheTransaction.{AnchorsCacheTransaction}
 use Rattle.rows.proofs.Laws.{no_here, no_later}
@@ -34,33 +35,21 @@ opening_kept area [] b = refl
 opening_kept area (k ∷ ks) b = opening_kept area ks (enter area k b) ∙ opening_now (k.number area b) (k.effect area b.present) b
 
 -- ---- the mark is set by a commit that answers 0, and by nothing else
-or_false : (x : Bool) → x ≡ (x || false)
-or_false true = refl
-or_false false = refl
-
-or_true : (x : Bool) → true ≡ (x || true)
-or_true true = refl
-or_true false = refl
-
-or_or : (x y z : Bool) → ((x || y) || z) ≡ (x || (y || z))
-or_or true y z = refl
-or_or false y z = refl
-
 mark_now : (n : ℕ) (e : Effect) (b : Book) → (on_zero n (on_book e b) b).mark ≡ (b.mark || on_zero n (is_commit e) false)
-mark_now (suc n) e b = or_false b.mark
-mark_now zero (changes c) b = or_false b.mark
-mark_now zero commits b = or_true b.mark
-mark_now zero rolls_back b = or_false b.mark
-mark_now zero nothing b = or_false b.mark
+mark_now (suc n) e b = sym (or-false b.mark)
+mark_now zero (changes c) b = sym (or-false b.mark)
+mark_now zero commits b = sym (or-true b.mark)
+mark_now zero rolls_back b = sym (or-false b.mark)
+mark_now zero nothing b = sym (or-false b.mark)
 
 mark_after : (area : List ℕ) (ks : List Call) (b : Book) → (entered area ks b).mark ≡ (b.mark || committed_in area ks b)
 unfolding entered enter committed_in
-mark_after area [] b = or_false b.mark
+mark_after area [] b = sym (or-false b.mark)
 mark_after area (k ∷ ks) b =
     let n = k.number area b in
     let e = k.effect area b.present in
     mark_after area ks (enter area k b)
-    ∙ (ap (λ (x : Bool). x || committed_in area ks (enter area k b)) (mark_now n e b) ∙ or_or b.mark (on_zero n (is_commit e) false) (committed_in area ks (enter area k b)))
+    ∙ (ap (λ (x : Bool). x || committed_in area ks (enter area k b)) (mark_now n e b) ∙ or_assoc b.mark (on_zero n (is_commit e) false) (committed_in area ks (enter area k b)))
 
 -- ---- the present cache is the changes since the last rollback on the opening one
 applied_snoc : (l : List Change) (c : Change) (v : Cache) → applied (l ++ (c ∷ [])) v ≡ apply c (applied l v)

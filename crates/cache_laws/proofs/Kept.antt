@@ -1,4 +1,5 @@
 -- Question 5 is kept by every call that answers 0.
+use Rattle.std.proofs.lemmas.Bool.{and_parts}
 use Prim.Native.Nat.{ℕ, zero, suc, ◌+◌, ◌-◌, ◌*◌, ◌/◌, ◌^◌, ◌≤◌, ◌<◌}
 use mathlib.Core.Path.{◌≡◌, refl, sym, ap, subst, ◌∙◌}
 use mathlib.Core.Bool.{Bool, true, false, ◌&&◌}
@@ -10,7 +11,7 @@ use lib.Dec.{ltb, leb}
 use lib.ListN.{length, take, drop}
 use borrow.Author.Tests.{lt-ltb, le-leb, leb-true, ltb-true, ltb-false}
 use Rattle.rows.specs.Rows.{pick, rows, stays}
-use Rattle.rows.proofs.Laws.{and_true, appended_length}
+use Rattle.rows.proofs.Laws.{appended_length}
 use Rattle.anchors_cache.specs.declared.AnchorsCache.{AnchorsCache}
 use Rattle.anchors_cache.specs.declared.AnchorsCacheTransaction.{AnchorsCacheTransaction}
 use Rattle.anchors_cache.specs.declared.MempoolAnchor.{MempoolAnchor}
@@ -32,7 +33,7 @@ whole places tables c p =
 row_lower : (low low' : ℕ) (a : Row) → low' ≤ low → sound_row low a ≡ true → sound_row low' a ≡ true
 unfolding sound_row
 row_lower low low' a p e =
-    let q = and_true _ _ e in
+    let q = and_parts _ _ e in
     let r = leb-true low a.id q.0 in
     rw (le-leb low' a.id (omega arith)) q.1
 
@@ -41,18 +42,18 @@ rest a = ltb 0 a.ours && (leb a.ours a.count && leb a.count max_anchor_messages)
 
 row_raise : (low high : ℕ) (a : Row) → high ≤ a.id → sound_row low a ≡ true → sound_row high a ≡ true
 unfolding sound_row
-row_raise low high a p e = rw (le-leb high a.id p) (and_true (leb low a.id) (rest a) e).1
+row_raise low high a p e = rw (le-leb high a.id p) (and_parts (leb low a.id) (rest a) e).1
 
 -- what is above the last id of a sound list is not below its first
 last_low : (low : ℕ) (b : Row) (l : List Row) (a : Row) → sound_from low (b ∷ l) ≡ true → above_last a.id (last_of (b ∷ l)) ≡ true → low ≤ a.id
 unfolding sound_from last_of sound_row
 last_low low b [] a e g =
-    let h = leb-true low b.id (and_true (leb low b.id) (rest b) (and_true (sound_row low b) true e).0).0 in
+    let h = leb-true low b.id (and_parts (leb low b.id) (rest b) (and_parts (sound_row low b) true e).0).0 in
     let k = ltb-true b.id a.id g in
     omega arith
 last_low low b (d ∷ l) a e g =
-    let q = and_true (sound_row low b) (sound_from (b.id + 1) (d ∷ l)) e in
-    let h = leb-true low b.id (and_true (leb low b.id) (rest b) q.0).0 in
+    let q = and_parts (sound_row low b) (sound_from (b.id + 1) (d ∷ l)) e in
+    let h = leb-true low b.id (and_parts (leb low b.id) (rest b) q.0).0 in
     let k = last_low (b.id + 1) d l a q.1 g in
     omega arith
 
@@ -60,19 +61,19 @@ sound_lower : (low low' : ℕ) (l : List Row) → low' ≤ low → sound_from lo
 unfolding sound_from
 sound_lower low low' [] p e = refl
 sound_lower low low' (a ∷ l) p e =
-    let q = and_true (sound_row low a) (sound_from (a.id + 1) l) e in
+    let q = and_parts (sound_row low a) (sound_from (a.id + 1) l) e in
     rw (row_lower low low' a p q.0) q.1
 
 sound_tail : (a : Row) (l : List Row) → sound_from 0 (a ∷ l) ≡ true → sound_from 0 l ≡ true
 unfolding sound_from
-sound_tail a l e = sound_lower (a.id + 1) 0 l (omega arith) (and_true (sound_row 0 a) (sound_from (a.id + 1) l) e).1
+sound_tail a l e = sound_lower (a.id + 1) 0 l (omega arith) (and_parts (sound_row 0 a) (sound_from (a.id + 1) l) e).1
 
 sound_take : (k low : ℕ) (l : List Row) → sound_from low l ≡ true → sound_from low (take k l) ≡ true
 unfolding sound_from
 sound_take zero low l e = refl
 sound_take (suc k) low [] e = refl
 sound_take (suc k) low (a ∷ l) e =
-    let q = and_true (sound_row low a) (sound_from (a.id + 1) l) e in
+    let q = and_parts (sound_row low a) (sound_from (a.id + 1) l) e in
     rw q.0 (sound_take k (a.id + 1) l q.1)
 
 total_take : (k : ℕ) (l : List Row) → total (take k l) ≤ total l
@@ -155,11 +156,11 @@ sound_snoc : (low : ℕ) (l : List Row) (a : Row) → sound_from low l ≡ true 
 unfolding sound_from last_of
 sound_snoc low [] a e f g = rw f
 sound_snoc low (b ∷ []) a e f g =
-    let q = and_true (sound_row low b) true e in
+    let q = and_parts (sound_row low b) true e in
     let h = ltb-true b.id a.id g in
     rw (q.0, row_raise low (b.id + 1) a (omega arith) f)
 sound_snoc low (b ∷ d ∷ l) a e f g =
-    let q = and_true (sound_row low b) (sound_from (b.id + 1) (d ∷ l)) e in
+    let q = and_parts (sound_row low b) (sound_from (b.id + 1) (d ∷ l)) e in
     let h = last_low (b.id + 1) d l a q.1 g in
     rw q.0 (sound_snoc (b.id + 1) (d ∷ l) a q.1 (row_raise low (b.id + 1) a h f) g)
 
@@ -293,7 +294,7 @@ module _ (places : ℕ) (tables : List ℕ) (t : AnchorsCacheTransaction) where
   pub undo_parts : valid places tables t ≡ true → t.active ≡ true → Parts places tables t.undo
   unfolding valid
   undo_parts e f =
-      let q = and_true (valid_cache places tables t.cache) (pick t.active (valid_cache places tables t.undo) true) e in
+      let q = and_parts (valid_cache places tables t.cache) (pick t.active (valid_cache places tables t.undo) true) e in
       parts places tables t.undo (sym (ap (λ (b : Bool). pick b (valid_cache places tables t.undo) true) f) ∙ q.1)
 
   pub valid_of : Parts places tables t.cache → (t.active ≡ true → Parts places tables t.undo) → valid places tables t ≡ true

@@ -9,7 +9,8 @@ use native.Mathlib.Omega.{arith}
 use lib.Dec.{ltb}
 use lib.ListN.{length, take, drop, length-drop}
 use lib.Seq.{drop-drop, take_all, take-append-le, drop-append-le, take_at, drop_at}
-use borrow.Author.Tests.{lt-ltb, leb-true, ltb-true}
+use borrow.Author.Tests.{lt-ltb, ltb-true}
+use Rattle.std.proofs.lemmas.List.{map-append}
 use Rattle.rows.specs.Rows.{pick, part, le, rows, stays}
 use Rattle.rows.proofs.Laws.{part_length, word_le, drop_take, rows_part, rows_within, rows_length, rows_appended, appended_part, appended_before, appended_after, appended_length}
 use Rattle.anchors_cache.specs.declared.AnchorsCache.{AnchorsCache}
@@ -17,7 +18,8 @@ use Rattle.cache_rules.specs.Rules.{Info, Anchor, Cache, Row, with_row, drop_sta
 use Rattle.anchors_cache.specs.Tables.{anchor_row, info_row, anchor_of, info_of, anchors, infos, anchor_at, with_messages, view, anchors_of, history_of, history_bytes, anchor_bytes}
 use Rattle.anchors_cache.specs.Windows.{row_time, popped_cache, popped_times, trimmed_cache, no_cache, in_history, history_added, in_cache, anchor_added, messages_added, info_for, used_by, added_cache, added_tables, added_area, Sound, Room}
 use Rattle.cache_rules.proofs.Lists.{stale_le}
-use Rattle.anchors_cache.proofs.Laws.{map_append, anchors_cons, anchors_length, infos_length, infos_end, fresh_le, kept_window, kept_history, length_info, length_anchor, length_messages}
+use Rattle.anchors_cache.proofs.Adding.{grown_within}
+use Rattle.anchors_cache.proofs.Laws.{anchors_cons, anchors_length, infos_length, infos_end, fresh_le, kept_window, kept_history, length_info, length_anchor, length_messages}
 use Rattle.cache_laws.specs.Book.{pop_times}
 
 -- ---- the messages of a window
@@ -144,11 +146,7 @@ module _ (tables area : List ℕ) (c : AnchorsCache) (s : Sound tables area c) (
       let z : (n : ℕ) → 0 + n ≡ n = λ n. omega arith in
       let r = rows_appended 52 0 c.history_first c.history_len history_bytes tables row wide (omega arith) (omega arith) (omega arith) in
       let r' = simp z at r in
-      rw r' (map_append info_of (rows 52 c.history_len (drop (52 * c.history_first) tables)) (row ∷ []))
-
-  placed_in : (b : Bool) → stays (52 * c.history_first) (52 * c.history_len) 52 history_bytes ≡ b → pick b c.history_first 0 + (c.history_len + 1) ≤ max_history
-  placed_in true e = let h : 52 * c.history_first + 52 * c.history_len + 52 ≤ history_bytes = leb-true _ _ e in omega arith
-  placed_in false e = omega arith
+      rw r' (map-append info_of (rows 52 c.history_len (drop (52 * c.history_first) tables)) (row ∷ []))
 
   pub sound_history : Sound (history_added row c tables) area (in_history c)
   unfolding in_history
@@ -160,7 +158,7 @@ module _ (tables area : List ℕ) (c : AnchorsCache) (s : Sound tables area c) (
         tall = omega arith;
         broad = s.broad;
         anchors_within = s.anchors_within;
-        history_within = placed_in (stays (52 * c.history_first) (52 * c.history_len) 52 history_bytes) refl;
+        history_within = grown_within c.history_first c.history_len s.history_within (omega arith);
         in_area = rw anchors_kept s.in_area;
       }
 
@@ -213,7 +211,7 @@ module _ (tables area : List ℕ) (c : AnchorsCache) (s : Sound tables area c) (
       let t = s.tall in
       let p = s.anchors_within in
       let r = rows_appended 50 history_bytes c.first c.len anchor_bytes tables row wide (omega arith) (omega arith) (omega arith) in
-      rw r (map_append anchor_of (rows 50 c.len (drop (history_bytes + 50 * c.first) tables)) (row ∷ []))
+      rw r (map-append anchor_of (rows 50 c.len (drop (history_bytes + 50 * c.first) tables)) (row ∷ []))
 
   pub messages_grown : 33 * (anchor_of row).count ≡ length messages
       → with_messages (drop (33 * (in_cache (length area) (length messages) (used_by tables c) c).base) (messages_added messages (used_by tables c) c area)) (anchors_of tables c ++ (anchor_of row ∷ []))

@@ -1,5 +1,6 @@
-// The digest of a cache: its anchors by `get`, with their messages, then the history's rows.
-use anchors_cache::{AnchorsCacheTransaction, Authored, CachedAnchor, HISTORY_BYTES, TABLES_BYTES};
+// The digest of a cache: its anchors by `get`, with their messages, then the history's entries.
+use anchors_cache::{AnchorInfo, AnchorsCacheTransaction, Authored, CachedAnchor, TABLES_BYTES};
+use rows::MESSAGE_LEN;
 
 #[derive(Clone, Copy)]
 struct Digest(u32);
@@ -22,18 +23,22 @@ impl Digest {
         self.number(u64::from(anchor.ours));
         self.number(anchor.count as u64);
         self.bytes(&authored.author);
-        for message in area.chunks_exact(33).skip(anchor.place).take(anchor.count) {
+        for message in area
+            .chunks_exact(MESSAGE_LEN)
+            .skip(anchor.place)
+            .take(anchor.count)
+        {
             self.bytes(message);
         }
     }
 
-    // A row of the history.
-    fn info(&mut self, row: &[u8]) {
-        self.number(u64::from(rows::num_at::<u32>(row, 0)));
-        self.number(rows::num_at::<u64>(row, 4));
-        self.number(u64::from(rows::num_at::<u32>(row, 12)));
-        self.number(u64::from(rows::num_at::<u32>(row, 16)));
-        self.bytes(row.get(20..).unwrap_or_default());
+    fn info(&mut self, authored: Authored<AnchorInfo>) {
+        let info = authored.value;
+        self.number(u64::from(info.id));
+        self.number(info.ct.0);
+        self.number(u64::from(info.all_exts_count));
+        self.number(u64::from(info.our_exts_count));
+        self.bytes(&authored.author);
     }
 }
 
@@ -44,12 +49,11 @@ pub fn of_cache(tables: &[u8; TABLES_BYTES], area: &[u8], t: AnchorsCacheTransac
             digest.anchor(area, anchor);
         }
     }
-    let history = tables[..HISTORY_BYTES].chunks_exact(52);
-    for row in history
-        .skip(t.cache.history_first)
-        .take(t.cache.history_len)
-    {
-        digest.info(row);
+    for i in 0..t.cache.history_len {
+        let row = t.cache.history_first.saturating_add(i);
+        if let Some(info) = anchors_cache::history_entry(tables, row) {
+            digest.info(info);
+        }
     }
     digest.0
 }

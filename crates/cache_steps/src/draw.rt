@@ -1,6 +1,9 @@
 // What the list draws. No sum of ids or chain times wraps in the list, so the wrapping sum is the sum.
 ghost use Rattle.std.specs.Prelude.{◌<◌, ◌≤◌};
 
+use cache_rules::AUTHOR_BYTES;
+use rows::MESSAGE_LEN;
+
 #[derive(Clone, Copy, Debug, PartialEq, Eq)]
 pub enum Kind {
     Small,
@@ -157,17 +160,20 @@ fn low_byte(id: u32) -> u8 {
 }
 
 // Byte i is (id + i) % 256.
-pub fn author(id: u32) -> [u8; 32] {
-    let mut author = [0; 32];
+pub fn author(id: u32) -> [u8; AUTHOR_BYTES] {
+    let mut author = [0; AUTHOR_BYTES];
     count_up(&mut author, low_byte(id));
     author
 }
 
-// Byte j of message m is (id + 7 * m + j) % 256. 120 messages are more than any anchor of the list has.
-pub fn messages(id: u32) -> [u8; 3960] {
-    let mut all = [0; 3960];
+// 120 messages, more than any anchor of the list has.
+const DRAWN_BYTES: usize = 120 * MESSAGE_LEN;
+
+// Byte j of message m is (id + 7 * m + j) % 256.
+pub fn messages(id: u32) -> [u8; DRAWN_BYTES] {
+    let mut all = [0; DRAWN_BYTES];
     let mut first = low_byte(id);
-    for message in all.chunks_exact_mut(33) {
+    for message in all.chunks_exact_mut(MESSAGE_LEN) {
         count_up(message, first);
         first = first.wrapping_add(7);
     }

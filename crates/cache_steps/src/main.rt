@@ -9,6 +9,7 @@ use cache_rules::AREA_BYTES;
 use draw::{Draw, Kind, Step};
 use ext_types::ChainTime;
 use refusals::Refusal;
+use rows::MESSAGE_LEN;
 use std::io::{self, BufWriter, Write};
 
 // What goes from step to step. None of the totals comes near 2^64.
@@ -44,7 +45,7 @@ impl Run {
             author: draw::author(drawn.id),
         };
         let messages = draw::messages(drawn.id);
-        let n = messages.len().min(33 * drawn.count as usize);
+        let n = messages.len().min(MESSAGE_LEN * drawn.count as usize);
         let left = anchors_cache::add(
             &mut self.tables,
             &mut self.area,
@@ -57,13 +58,10 @@ impl Run {
             Ok(t) => {
                 self.t = t;
                 self.adds = self.adds.wrapping_add(1);
-                writeln!(out, "add 0")
             }
-            Err(refusal) => {
-                self.refused = self.refused.wrapping_add(1);
-                writeln!(out, "add {}", u8::from(refusal))
-            }
+            Err(_) => self.refused = self.refused.wrapping_add(1),
         }
+        writeln!(out, "add {}", refusals::number(left))
     }
 
     fn pop(&mut self, out: &mut impl Write) -> io::Result<()> {
@@ -124,7 +122,7 @@ impl Run {
     {
         let left = call(&self.tables, &self.area, self.t);
         self.t = left.unwrap_or(self.t);
-        writeln!(out, "{name} {}", refusals::number(left.map(|_| ())))
+        writeln!(out, "{name} {}", refusals::number(left))
     }
 
     fn step(&mut self, out: &mut impl Write, kind: Kind) -> io::Result<()> {

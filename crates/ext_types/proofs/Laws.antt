@@ -1,4 +1,5 @@
 -- Laws of the order of keys.
+use Rattle.std.proofs.lemmas.Bool.{and_parts}
 use Prim.Native.Nat.{ℕ, ◌<◌}
 use mathlib.Core.Path.{◌≡◌, refl, sym, ap, ◌∙◌}
 use mathlib.Core.Bool.{Bool, true, false, ◌||◌, ◌&&◌}
@@ -6,7 +7,6 @@ use mathlib.Core.Logic.{◌⊎◌, inl, inr}
 use native.Mathlib.Omega.{arith}
 use lib.Dec.{ltb, eqb}
 use borrow.Author.Tests.{ltb-true, ltb-false, eqb-true, lt-ltb, le-ltb, eq-eqb}
-use Rattle.rows.proofs.Laws.{and_true}
 use Rattle.ext_types.specs.declared.ExternalKey.{ExternalKey}
 use Rattle.ext_types.specs.Keys.{key_above, key_equal}
 
@@ -61,7 +61,7 @@ above_asymmetric a b p = go (key_above b a) refl
 pub equal_same : (a b : ExternalKey) → key_equal a b ≡ true → a ≡ b
 unfolding key_equal
 equal_same a b h =
-    let both = and_true (eqb a.anchor_id b.anchor_id) (eqb a.msgs_offset b.msgs_offset) h in
+    let both = and_parts (eqb a.anchor_id b.anchor_id) (eqb a.msgs_offset b.msgs_offset) h in
     same_parts a b (eqb-true _ _ both.0) (eqb-true _ _ both.1)
 
 pub same_equal : (a b : ExternalKey) → a ≡ b → key_equal a b ≡ true

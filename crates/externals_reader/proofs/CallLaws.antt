@@ -18,7 +18,7 @@ use Rattle.std.specs.Prelude.{Result, Ok, Err}
 use Rattle.refusals.specs.declared.Refusal.{Refusal}
 use Rattle.refusals.specs.Refusals.{number_of}
 use Rattle.refusals.proofs.Laws.{refused_is_not_done}
-use Rattle.messages_buffer.proofs.Laws.{first_zero}
+use Rattle.messages_buffer.proofs.Laws.{first_zero, number_zero}
 use Rattle.range_rules.proofs.Counts.{zeros}
 use Rattle.reader_rules.specs.declared.ExternalsReader.{ExternalsReader}
 use Rattle.reader_rules.specs.declared.GetNextMessageGroupMode.{GetNextMessageGroupMode}
@@ -37,17 +37,13 @@ use Rattle.externals_reader.proofs.TurnLaws.{window_fits, all_told, nothing_used
 use Rattle.cache_rules.specs.Rules.{max_history}
 use Rattle.anchors_cache.specs.Tables.{tables_bytes}
 
-fits : (b : Bool) → ◌≡◌ {A = ℕ} (pick b 0 4) 0 → b ≡ true
-fits true e = refl
-fits false e = absurd (omega arith)
-
 -- question 4 answered "yes" leaves the effective limit within 16
 effective_limit : (limits : List ℕ) (most : ℕ) → settings_number limits most ≡ 0 → pick (ltb most 2) 2 most ≤ max_ranges
 unfolding settings_number
 effective_limit limits most z = go (ltb most 2)
   where
     small : most ≤ max_ranges
-    small = leb-true most max_open_ranges (fits (leb most max_open_ranges) (first_zero _ _ (first_zero _ _ z).1).0)
+    small = leb-true most max_open_ranges (number_zero (leb most max_open_ranges) 4 (omega arith) (first_zero _ _ (first_zero _ _ z).1).0)
 
     go : (b : Bool) → pick b 2 most ≤ max_ranges
     go true = omega arith

@@ -1,19 +1,17 @@
 -- What a call on the reader answers where a question refuses it, and where none does.
 use Prim.Native.Nat.{ℕ}
-use mathlib.Core.Path.{◌≡◌, sym, ◌∙◌}
+use mathlib.Core.Path.{◌≡◌}
 use mathlib.Core.Bool.{Bool, false}
-use mathlib.Core.List.{List, ◌∷◌}
+use mathlib.Core.List.{List}
 use lib.Dec.{eqb}
 use lib.ListN.{replicate}
 use borrow.Author.Tests.{ne_eqb}
 use Rattle.std.specs.Prelude.{Result}
 use Rattle.std.specs.Result.{IsErr, IsErrAnd}
 use Rattle.refusals.specs.declared.Refusal.{Refusal}
-use Rattle.refusals.specs.Refusals.{number, number_of}
-use Rattle.refusals.proofs.Laws.{handed_on, handed_number, refused_is_not_done}
+use Rattle.refusals.specs.Refusals.{number_of}
+use Rattle.refusals.proofs.Laws.{handed_on, refused_is_not_done}
 use Rattle.rows.specs.Rows.{pick}
-use Rattle.messages_buffer.specs.Fullness.{first_no}
-use Rattle.messages_buffer.proofs.Laws.{first_no_lem, first_yes}
 use Rattle.range_rules.specs.declared.ExternalsRangeReaderState.{ExternalsRangeReaderState}
 use Rattle.reader_rules.specs.declared.ExternalsReader.{ExternalsReader}
 use Rattle.externals_reader.specs.Answers.{reader_done_of, partition_ids_of, next_range_of, no_next_range}
@@ -25,17 +23,6 @@ change_done k r s e = rw (← e)
 pub change_refused : (k : ℕ) (r s : ExternalsReader) (x : Result ExternalsReader Refusal) (e : Refusal)
     → IsErr x × IsErrAnd x (λ y. y ≡ e) → number_of e ≡ k → reader_done_of r x ≡ changed k r s
 change_refused k r s x e h q = rw (handed_on x e h, ← q, ne_eqb (number_of e) 0 (refused_is_not_done e))
-
--- the questions in their order
-pub next_yes : (n : ℕ) (l : List ℕ) → 0 ≡ n → first_no (n ∷ l) ≡ first_no l
-next_yes n l e = first_yes n l (sym e)
-
-pub next_no : {A : Type 0} (n : ℕ) (l : List ℕ) (x : Result A Refusal) (e : Refusal)
-    → IsErr x × IsErrAnd x (λ y. y ≡ e) → number_of e ≡ n → number x ≡ first_no (n ∷ l)
-next_no n l x e h q = handed_number x e h ∙ (q ∙ sym (first_no_lem n l (λ z. refused_is_not_done e (q ∙ z))))
-
-pub first_refused : (n : ℕ) (l : List ℕ) (e : Refusal) → number_of e ≡ n → number_of e ≡ first_no (n ∷ l)
-first_refused n l e q = q ∙ sym (first_no_lem n l (λ z. refused_is_not_done e (q ∙ z)))
 
 pub ids_refused : (k : ℕ) (present : List Bool) (x : Result (List Bool) Refusal) (e : Refusal)
     → IsErr x × IsErrAnd x (λ y. y ≡ e) → number_of e ≡ k → partition_ids_of x ≡ record { number = k; present = pick (eqb k 0) present (replicate 8 false) }

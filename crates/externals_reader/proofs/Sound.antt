@@ -1,4 +1,5 @@
 -- Laws of questions 4 and 5: the ranges by index, and what a number 0 says.
+use Rattle.std.proofs.lemmas.Bool.{and_parts}
 use Prim.Native.Nat.{ℕ, suc, zero, ◌+◌, ◌≤◌, ◌<◌}
 use mathlib.Core.Path.{◌≡◌, refl, sym, ap, ◌∙◌}
 use mathlib.Core.Bool.{Bool, true, false, ◌&&◌}
@@ -10,12 +11,12 @@ use lib.ListN.{length, get_or, take, drop, drop_of_length-le}
 use lib.Seq.{drop-cons}
 use borrow.Author.Tests.{eqb-true, leb-true, le-leb}
 use Rattle.rows.specs.Rows.{pick}
-use Rattle.rows.proofs.Laws.{and_true, pick_yes}
+use Rattle.rows.proofs.Laws.{pick_yes}
 use Rattle.reader_rules.specs.declared.ExternalsReaderState.{ExternalsReaderState}
 use Rattle.reader_rules.specs.State.{ranges_number, no_range, held_ranges, range_sound, sound_ranges_from, state_number, settings_number, max_ranges, max_open_ranges}
 use Rattle.messages_buffer.specs.Fullness.{limits_number, partitions_number}
 use Rattle.range_rules.specs.declared.ExternalsRangeReaderState.{ExternalsRangeReaderState}
-use Rattle.messages_buffer.proofs.Laws.{first_yes, first_alone}
+use Rattle.messages_buffer.proofs.Laws.{first_yes, first_alone, number_zero}
 
 -- ---- the loop over the ranges
 module _ (xs : List ExternalsRangeReaderState) (low i : ℕ) (h : i < length xs) where
@@ -37,8 +38,8 @@ sound_end xs low i h = rw (drop_of_length-le xs h)
 pub sound_counts : (low : ℕ) (l : List ExternalsRangeReaderState) → sound_ranges_from low l ≡ true → (i : ℕ) → i < length l → partitions_number (get_or l i no_range).by_partitions ≡ 0
 unfolding sound_ranges_from
 sound_counts low [] e i h = absurd (omega arith)
-sound_counts low (r ∷ l) e zero h = eqb-true _ _ (and_true (leb low r.seqno) _ (and_true (range_sound low r) _ e).0).1
-sound_counts low (r ∷ l) e (suc i) h = sound_counts (suc r.seqno) l (and_true (range_sound low r) _ e).1 i (omega arith)
+sound_counts low (r ∷ l) e zero h = eqb-true _ _ (and_parts (leb low r.seqno) _ (and_parts (range_sound low r) _ e).0).1
+sound_counts low (r ∷ l) e (suc i) h = sound_counts (suc r.seqno) l (and_parts (range_sound low r) _ e).1 i (omega arith)
 
 -- ---- question 5
 pub sound_table : (ranges : List ExternalsRangeReaderState) (len : ℕ) → len ≤ max_ranges → sound_ranges_from 0 (take len ranges) ≡ true → 0 ≡ ranges_number ranges len
@@ -53,12 +54,8 @@ module _ (state : ExternalsReaderState) where
   pub sound_parts : state_number state ≡ 0 → (state.len ≤ max_ranges) × (sound_ranges_from 0 (held_ranges state) ≡ true)
   unfolding state_number
   sound_parts e =
-      let p = and_true (leb state.len max_ranges) (sound_ranges_from 0 (held_ranges state)) (yes_0 _ e) in
+      let p = and_parts (leb state.len max_ranges) (sound_ranges_from 0 (held_ranges state)) (number_zero _ 5 (omega arith) e) in
       (leb-true _ _ p.0, p.1)
-    where
-      yes_0 : (b : Bool) → ◌≡◌ {A = ℕ} (pick b 0 5) 0 → b ≡ true
-      yes_0 true q = refl
-      yes_0 false q = absurd (omega arith)
 
 -- ---- question 4
 module _ (limits : List ℕ) (most : ℕ) (limits_fit : limits_number limits ≡ 0) where

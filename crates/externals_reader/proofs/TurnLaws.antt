@@ -2,22 +2,22 @@
 use Rattle.std.specs.Prelude.{Some}
 use Prim.Native.Nat.{ℕ, zero, suc, ◌+◌, ◌-◌, ◌*◌, ◌<◌, ◌≤◌}
 use mathlib.Core.Path.{◌≡◌, refl, sym, ap, ◌∙◌}
-use mathlib.Core.Bool.{Bool, true, false, not, ◌&&◌}
+use mathlib.Core.Bool.{Bool, true, false, not, ◌&&◌, ◌||◌}
 use mathlib.Core.List.{List, [], ◌∷◌, ◌++◌, append-nil}
 use native.Mathlib.Omega.{arith}
 use lib.Dec.{eqb}
-use lib.ListN.{length, get_or, set, take, drop, replicate, length-replicate, length-append, length-take, length-drop, drop_of_length-le, take-append-drop}
+use lib.ListN.{length, get_or, set, take, drop, replicate, length-replicate, length-set, length-append, length-take, length-drop, drop_of_length-le, take-append-drop}
 use lib.Seq.{sets, set-set, get_or-set_same, take_all, length-take-le, length-sets}
 use borrow.Rule.Slice.PartMut.{put_mid, mid_of, put_same}
 use borrow.Author.Tests.{eq-eqb, ne_eqb}
 use Rattle.reader_rules.proofs.Sums.{added_at_most, more_at_most}
 use Rattle.rows.specs.Rows.{pick}
-use Rattle.rows.proofs.Laws.{pick_yes, pick_no, sets_append}
+use Rattle.rows.proofs.Laws.{pick_yes, pick_no, pick_same}
 use Rattle.messages_buffer.specs.Fullness.{first_no}
 use Rattle.anchors_cache.specs.declared.AnchorsCacheTransaction.{AnchorsCacheTransaction}
 use Rattle.anchors_cache.specs.Answers.{Done}
 use Rattle.anchors_cache.specs.Calls.{pops_call}
-use Rattle.range_reader.proofs.LocalLaws.{set_same}
+use Rattle.std.proofs.lemmas.List.{set-get_or}
 use Rattle.range_rules.specs.declared.ExternalsRangeReaderState.{ExternalsRangeReaderState}
 use Rattle.range_rules.specs.declared.ReadCounts.{ReadCounts}
 use Rattle.range_rules.specs.Walks.{RangeRead}
@@ -29,7 +29,8 @@ use Rattle.std.specs.Prelude.{Result, Ok, Err}
 use Rattle.refusals.specs.declared.Refusal.{Refusal}
 use Rattle.refusals.specs.Refusals.{number_of}
 use Rattle.refusals.proofs.Laws.{refused_is_not_done}
-use Rattle.range_reader.specs.Calls.{ReadAnswer, ReadResult, asked_number, range_read, refused_answer, done_result, read_call, check_call}
+use Rattle.range_reader.specs.Calls.{ReadAnswer, ReadResult, asked_number, range_read, refused_answer, done_result, read_call, read_or_check_call}
+use Rattle.range_reader.proofs.MessageLaws.{wrote_more}
 use Rattle.range_reader.proofs.Bounds.{Bounded, every_answer_is_bounded, a_read_with_number_0_stores_its_entries}
 use Rattle.reader_rules.specs.declared.Fixed.{Fixed}
 use Rattle.reader_rules.specs.Turns.{SoFar, RangesRead}
@@ -37,10 +38,11 @@ use Rattle.externals_reader.specs.declared.SoFar.{SoFar as CodeSoFar}
 use Rattle.externals_reader.specs.declared.RangesRead.{RangesRead as CodeRanges}
 use Rattle.externals_reader.specs.declared.TurnDone.{TurnDone as CodeTurn}
 use Rattle.reader_rules.specs.State.{no_range, max_ranges}
-use Rattle.reader_rules.specs.Rules.{next_range, is_skipped, mode_for, settled, counts_added, Told, numbered, not_all_read, added, read_of, after_turn, OneRange, read_turn, turn, is_over, turns, with_next_range, ranges_read, wants_next}
+use Rattle.reader_rules.specs.Rules.{next_range, is_skipped, mode_for, settled, nothing_read, counts_added, Told, numbered, not_all_read, added, read_of, after_turn, OneRange, read_turn, turn, is_over, turns, with_next_range, ranges_read, wants_next}
 use Rattle.externals_reader.specs.Calls.{told, window_read}
 use Rattle.externals_reader.specs.Locals.{TurnDone, turn_done}
-use Rattle.externals_reader.specs.Ready.{so_far_told, ranges_told, done_told, ranges_tell, turn_tells, After, TurnRoom, Start, TurnReady, RangeWrote, TurnWrote}
+use Rattle.externals_reader.specs.Ready.{so_far_told, ranges_told, done_told, ranges_tell, turns_tell, turn_tells, After, TurnRoom, Start, TurnReady, RangeWrote, TurnWrote}
+use Rattle.std.proofs.lemmas.List.{get_or_append_left, set-append_left}
 use Rattle.externals_reader.proofs.Laws.{next_below}
 use Rattle.cache_rules.specs.Rules.{max_anchors, max_messages}
 
@@ -120,7 +122,7 @@ module _ (x : Fixed) (s : SoFar) (range : ExternalsRangeReaderState) (a : Told) 
 -- ---- a range among the others
 module _ (ranges : List ExternalsRangeReaderState) (i : ℕ) (range : ExternalsRangeReaderState) (here : get_or ranges i no_range ≡ range) where
   stays : set ranges i range ≡ ranges
-  stays = ap (set ranges i) (sym here) ∙ set_same ranges i no_range
+  stays = ap (set ranges i) (sym here) ∙ set-get_or ranges i no_range
 
   module _ (x : Fixed) (s : SoFar) (len : ℕ) (a : Told) where
     abbrev read_done : TurnDone
@@ -139,21 +141,14 @@ module _ (ranges : List ExternalsRangeReaderState) (i : ℕ) (range : ExternalsR
 
 -- ---- one range's read, writing or not
 module _ (tables area : List ℕ) (t : AnchorsCacheTransaction) (routes : List ℕ) (x : Fixed) (range : ExternalsRangeReaderState) (out : List ℕ) (write : Bool) (mode : ReadNextExternalsMode) (me : mode ≡ mode_for x range.seqno) (a : ReadAnswer) (o : List ℕ) where
-  pub range_written : write ≡ true → record { answer = a; out = o } ≡ read_call tables area t x.shard routes x.limits x.processed x.params.externals_expire_timeout mode range out → RangeWrote write tables area t routes x range out o a
-  range_written h e =
-      let f = e ∙ ap (λ (m : ReadNextExternalsMode). read_call tables area t x.shard routes x.limits x.processed x.params.externals_expire_timeout m range out) me in
-      rw h (record { answer = ap (λ (d : ReadResult). d.answer) f; out = ap (λ (d : ReadResult). d.out) f })
-
-  pub range_told : write ≡ false → record { answer = a; out = o } ≡ check_call tables area t x.shard routes x.limits x.processed x.params.externals_expire_timeout mode range out → RangeWrote write tables area t routes x range out o a
-  range_told h e =
-      let f = e ∙ ap (λ (m : ReadNextExternalsMode). check_call tables area t x.shard routes x.limits x.processed x.params.externals_expire_timeout m range out) me in
-      rw h (record { answer = ap (λ (d : ReadResult). d.answer) f; out = ap (λ (d : ReadResult). d.out) f })
+  pub range_told : record { answer = a; out = o } ≡ read_or_check_call write tables area t x.shard routes x.limits x.processed x.params.externals_expire_timeout mode range out → RangeWrote write tables area t routes x range out o a
+  range_told e = go write (e ∙ ap (λ (m : ReadNextExternalsMode). read_or_check_call write tables area t x.shard routes x.limits x.processed x.params.externals_expire_timeout m range out) me)
+    where
+      go : (b : Bool) → record { answer = a; out = o } ≡ read_or_check_call b tables area t x.shard routes x.limits x.processed x.params.externals_expire_timeout (mode_for x range.seqno) range out → RangeWrote b tables area t routes x range out o a
+      go true f = record { answer = ap (λ (d : ReadResult). d.answer) f; out = ap (λ (d : ReadResult). d.out) f }
+      go false f = record { answer = ap (λ (d : ReadResult). d.answer) f; out = ap (λ (d : ReadResult). d.out) f }
 
 -- ---- a turn
-pick_same : {A : Type 0} (b : Bool) (y z : A) → y ≡ z → z ≡ pick b y z
-pick_same true y z e = sym e
-pick_same false y z e = refl
-
 -- what is stored in the lent part is stored behind the used bytes
 lent_on : (used : ℕ) (out es : List ℕ) → used ≤ length out → put_mid used (length out - used) out (sets (mid_of used (length out - used) out) 0 es) ≡ sets out used es
 lent_on used out es h =
@@ -186,7 +181,7 @@ module _ (one : OneRange) (x : Fixed) (s : CodeSoFar) (range : ExternalsRangeRea
   turn_passed h = record {
     at = λ ranges i len e.
         rw (passes one x i (read_of (so_far_told s) ranges len) (ap (λ (v : ExternalsRangeReaderState). v.fully_read) e ∙ h))
-        (record { value = ap (λ (l : List ExternalsRangeReaderState). read_of (so_far_told s) l len) (stays ranges i range e); out = pick_same write _ _ refl });
+        (record { value = ap (λ (l : List ExternalsRangeReaderState). read_of (so_far_told s) l len) (stays ranges i range e); out = sym (pick_same write _) });
   }
 
   pub turn_skipped : range.fully_read ≡ false → is_skipped x range ≡ true
@@ -194,7 +189,7 @@ module _ (one : OneRange) (x : Fixed) (s : CodeSoFar) (range : ExternalsRangeRea
   turn_skipped h k = record {
     at = λ ranges i len e.
         rw (skips one x i (read_of (so_far_told s) ranges len) (ap (λ (v : ExternalsRangeReaderState). v.fully_read) e ∙ h) (ap (is_skipped x) e ∙ k))
-        (record { value = ap (λ (l : List ExternalsRangeReaderState). read_of (not_all_read (so_far_told s)) l len) (stays ranges i range e); out = pick_same write _ _ refl });
+        (record { value = ap (λ (l : List ExternalsRangeReaderState). read_of (not_all_read (so_far_told s)) l len) (stays ranges i range e); out = sym (pick_same write _) });
   }
 
 module _ (tables area : List ℕ) (t : AnchorsCacheTransaction) (routes : List ℕ) (x : Fixed) (s : SoFar) (range : ExternalsRangeReaderState) (write : Bool) (out : List ℕ) (ready : TurnRoom x s out)
@@ -339,10 +334,6 @@ unfolding turns
 turns_last one x zero i s e = refl
 turns_last one x (suc n) i s e = pick_yes (is_over s.value) _ _ (e (omega arith))
 
-written_more : (write : Bool) (out₀ out out' es fs : List ℕ) (used : ℕ) → used ≡ length es → out ≡ pick write (sets out₀ 0 es) out₀ → out' ≡ pick write (sets out used fs) out → out' ≡ pick write (sets out₀ 0 (es ++ fs)) out₀
-written_more true out₀ out out' es fs used u e f = f ∙ rw (e, u) (let z : 0 + length es ≡ length es = omega arith in sym (sets_append out₀ 0 es fs ∙ ap (λ (n : ℕ). sets (sets out₀ 0 es) n fs) z))
-written_more false out₀ out out' es fs used u e f = f ∙ e
-
 written_same : (write : Bool) (used : ℕ) (out out' es : List ℕ) → out' ≡ pick write (sets out used es) out → length out' ≡ length out
 written_same true used out out' es e = ap (λ (l : List ℕ). length l) e ∙ length-sets out used es
 written_same false used out out' es e = ap (λ (l : List ℕ). length l) e
@@ -373,11 +364,6 @@ module _ (one : OneRange) (fits : (pops : ℕ) (mode : ReadNextExternalsMode) (r
     pub wrote : out ≡ pick write (sets out₀ 0 entries) out₀
     pub walked : turns one x (start.len - i) i (record { value = r; entries = entries }) ≡ turns one x start.len 0 (silent start)
 
-  pub turning_start : Start x start out₀ → Turning start 0 out₀
-  turning_start s =
-      let z : start.len - 0 ≡ start.len = omega arith in
-      record { entries = []; counted = omega arith; after = s.after; bytes = s.unused; len = refl; wrote = pick_same write out₀ out₀ refl; walked = rw z }
-
   pub turning_next : (r : RangesRead) (i : ℕ) (out : List ℕ) → Turning r i out → i < start.len → is_over r ≡ false → (q : RangesRead) (out' : List ℕ) → Wrote write r.so_far.used out out' q (turn one x i r) → Turning q (i + 1) out'
   turning_next r i out h more e q out' w =
       let k = turn_kept one fits x i r i h.after in
@@ -389,7 +375,7 @@ module _ (one : OneRange) (fits : (pops : ℕ) (mode : ReadNextExternalsMode) (r
         after = rw w.value k.after;
         bytes = rw w.value (k.bytes ∙ (ap (λ (n : ℕ). n + length s.entries) h.bytes ∙ sym (length-append h.entries s.entries)));
         len = rw w.value (k.len ∙ h.len);
-        wrote = written_more write out₀ out out' h.entries s.entries r.so_far.used h.bytes h.wrote w.out;
+        wrote = wrote_more write 0 r.so_far.used out₀ out out' h.entries s.entries (omega (arith, h.bytes)) h.wrote w.out;
         walked = rw (w.value, ← z) (sym (turns_step one x (start.len - i) i (record { value = r; entries = h.entries }) (omega arith) e) ∙ h.walked);
       }
 
@@ -400,7 +386,7 @@ module _ (one : OneRange) (fits : (pops : ℕ) (mode : ReadNextExternalsMode) (r
       let s = turn one x i r in
       let stop : is_over s.value ≡ true = rw (← w.value, ne_eqb (number_of e) 0 (refused_is_not_done e)) in
       rw (sym h.walked ∙ (turns_step one x (start.len - i) i (record { value = r; entries = h.entries }) (omega arith) going ∙ turns_last one x (start.len - i - 1) (i + 1) (followed (record { value = r; entries = h.entries }) s) (λ p. stop)))
-      (record { value = w.value; out = written_more write out₀ out out' h.entries s.entries r.so_far.used h.bytes h.wrote w.out })
+      (record { value = w.value; out = wrote_more write 0 r.so_far.used out₀ out out' h.entries s.entries (omega (arith, h.bytes)) h.wrote w.out })
 
   pub turning_last : (r : RangesRead) (i : ℕ) (out : List ℕ) → Turning r i out → (i < start.len → is_over r ≡ true) → Wrote write 0 out₀ out r (turns one x start.len 0 (silent start))
   turning_last r i out h e =
@@ -413,6 +399,63 @@ module _ (one : OneRange) (fits : (pops : ℕ) (mode : ReadNextExternalsMode) (r
   turning_ready st s ranges len i out h =
       let a = weaker i max_ranges x.room (read_of s ranges len) (omega (arith, h.counted, st.slots)) h.after in
       record { few = a.few; pops = a.pops; used = a.used; room = turning_length (read_of s ranges len) i out h ∙ st.room; small = st.small }
+
+-- the loop has the ranges as a part of the table, and leaves the `rest` of it
+module _ (one : OneRange) (fits : (pops : ℕ) (mode : ReadNextExternalsMode) (range : ExternalsRangeReaderState) (room : ℕ) → Fits room (one pops mode range room)) (x : Fixed) (write : Bool) (old : List ExternalsRangeReaderState) (out₀ : List ℕ) where
+  abbrev pub part_start : List ExternalsRangeReaderState → RangesRead
+  part_start rest = read_of nothing_read (old ++ rest) (length old)
+
+  pub record PartTurning (s : SoFar) (ranges : List ExternalsRangeReaderState) (i : ℕ) (out : List ℕ) : Type 0 where
+    pub long : length ranges ≡ length old
+    pub turning : (rest : List ExternalsRangeReaderState) → Turning one fits x write (part_start rest) out₀ (read_of s (ranges ++ rest) (length old)) i out
+
+  module _ (s : SoFar) (ranges : List ExternalsRangeReaderState) (i : ℕ) (out : List ℕ) (h : PartTurning s ranges i out) where
+    pub part_ready : Start x (read_of nothing_read old (length old)) out₀ → TurnRoom x s out
+    part_ready st =
+        let t = h.turning [] in
+        let b : Start x (part_start []) out₀ = record { after = record { few = st.after.few; pops = st.after.pops; used = st.after.used }; unused = st.unused; slots = st.slots; limit = st.limit; room = st.room; small = st.small } in
+        turning_ready one fits x write (part_start []) out₀ b s (ranges ++ []) (length old) i out t
+
+    module _ (more : i < length old) (going : (not (eqb s.number 0) || s.stopped) ≡ false) where
+      here : (rest : List ExternalsRangeReaderState) → get_or (ranges ++ rest) i no_range ≡ get_or ranges i no_range
+      here rest = get_or_append_left ranges rest no_range i (omega (arith, more, h.long))
+
+      pub part_next : (q : CodeTurn) (out' : List ℕ) → TurnWrote write one x s (get_or ranges i no_range) out out' (Ok q) → PartTurning (so_far_told q.so_far) (set ranges i q.range) (i + 1) out'
+      part_next q out' w = record {
+        long = length-set ranges i q.range ∙ h.long;
+        turning = λ rest. rw (← set-append_left ranges rest i q.range (omega (arith, more, h.long)))
+            (turning_next one fits x write (part_start rest) out₀ (read_of s (ranges ++ rest) (length old)) i out (h.turning rest) more going _ out' (turn_wrote write s.used out out' (ranges ++ rest) i (length old) q _ (w.at (ranges ++ rest) i (length old) (here rest))));
+      }
+
+      pub part_refused : (r : Refusal) (out' : List ℕ) → TurnWrote write one x s (get_or ranges i no_range) out out' (Err r) → (rest now : List ExternalsRangeReaderState) (q : Result CodeSoFar Refusal) → q ≡ Err r
+          → Tells write 0 out₀ out' (turns_tell (now ++ rest) (length old) q) (turns one x (length old) 0 (silent (part_start rest)))
+      part_refused r out' w rest now q e =
+          rw e (turning_refused one fits x write (part_start rest) out₀ (read_of s (ranges ++ rest) (length old)) i out (h.turning rest) more going r out' (let v = w.at (ranges ++ rest) i (length old) (here rest) in record { value = v.value; out = v.out }))
+
+  pub part_ended : (s : CodeSoFar) (ranges : List ExternalsRangeReaderState) (i : ℕ) (out : List ℕ) → PartTurning (so_far_told s) ranges i out → (i < length old → s.stopped ≡ true) → (rest : List ExternalsRangeReaderState)
+      → Tells write 0 out₀ out (turns_tell (ranges ++ rest) (length old) (Ok s)) (turns one x (length old) 0 (silent (part_start rest)))
+  part_ended s ranges i out h e rest =
+      let w = turning_last one fits x write (part_start rest) out₀ (read_of (so_far_told s) (ranges ++ rest) (length old)) i out (h.turning rest) e in
+      record { value = w.value; out = w.out }
+
+-- the first `len` ranges of a table are that part
+pub part_long : (ranges now : List ExternalsRangeReaderState) (len : ℕ) → len ≤ length ranges → length now ≡ length (take len ranges) → length ranges ≡ max_ranges → length (now ++ drop len ranges) ≡ max_ranges
+part_long ranges now len fit h e = length-append now (drop len ranges) ∙ omega (arith, h, e, length-take-le len ranges fit, length-drop len ranges)
+
+module _ (one : OneRange) (x : Fixed) (write : Bool) (ranges : List ExternalsRangeReaderState) (len : ℕ) (fit : len ≤ length ranges) (out₀ out : List ℕ) where
+  abbrev pub part_read : Outcome RangesRead
+  part_read = turns one x (length (take len ranges)) 0 (silent (read_of nothing_read (take len ranges ++ drop len ranges) (length (take len ranges))))
+
+  part_is : part_read ≡ turns one x len 0 (silent (read_of nothing_read ranges len))
+  part_is = rw (length-take-le len ranges fit, take-append-drop len ranges)
+
+  pub part_done : (s : CodeSoFar) (now : List ExternalsRangeReaderState) → Tells write 0 out₀ out (turns_tell (now ++ drop len ranges) (length (take len ranges)) (Ok s)) part_read
+      → Wrote write 0 out₀ out (read_of (so_far_told s) (now ++ drop len ranges) len) (turns one x len 0 (silent (read_of nothing_read ranges len)))
+  part_done s now w = rw (← part_is) (record { value = ap (λ (n : ℕ). read_of (so_far_told s) (now ++ drop len ranges) n) (sym (length-take-le len ranges fit)) ∙ w.value; out = w.out })
+
+  pub part_stopped : (e : Refusal) → Tells write 0 out₀ out (λ v. number_of e ≡ v.so_far.number) part_read
+      → Tells write 0 out₀ out (λ v. number_of e ≡ v.so_far.number) (turns one x len 0 (silent (read_of nothing_read ranges len)))
+  part_stopped e w = rw (← part_is) w
 
 -- ---- all the turns
 module _ (one : OneRange) (fits : (pops : ℕ) (mode : ReadNextExternalsMode) (range : ExternalsRangeReaderState) (room : ℕ) → Fits room (one pops mode range room)) (x : Fixed) where
@@ -507,7 +550,7 @@ module _ (one : OneRange) (fits : (pops : ℕ) (mode : ReadNextExternalsMode) (r
           rw (pick_yes (wants_next x whole.value) longer whole (ap (wants_next x) (sym w.value) ∙ h))
           (record {
             value = ap (λ (l : List ExternalsRangeReaderState). read_of (so_far_told q.so_far) l (len + 1)) (sym (set-set ranges len range q.range)) ∙ (z.value ∙ ap (λ (t : Outcome RangesRead). t.value) f);
-            out = written_more write out₀ out out' whole.entries (turn one x whole.value.len (with_next_range x whole.value)).entries s.used u w.out (z.out ∙ ap (λ (t : Outcome RangesRead). pick write (sets out s.used t.entries) out) f);
+            out = wrote_more write 0 s.used out₀ out out' whole.entries (turn one x whole.value.len (with_next_range x whole.value)).entries (omega (arith, u)) w.out (z.out ∙ ap (λ (t : Outcome RangesRead). pick write (sets out s.used t.entries) out) f);
           })
 
       pub next_refused : wants_next x (read_of s ranges len) ≡ true → length ranges ≡ max_ranges → (range : ExternalsRangeReaderState) → range ≡ next_range x.block_seqno x.next_chain_time x.by_partitions ranges len
@@ -521,7 +564,7 @@ module _ (one : OneRange) (fits : (pops : ℕ) (mode : ReadNextExternalsMode) (r
           rw (qe, pick_yes (wants_next x whole.value) longer whole (ap (wants_next x) (sym w.value) ∙ h))
           (record {
             value = z.value ∙ ap (λ (t : Outcome RangesRead). t.value.so_far.number) f;
-            out = written_more write out₀ out out' whole.entries (turn one x whole.value.len (with_next_range x whole.value)).entries s.used u w.out (z.out ∙ ap (λ (t : Outcome RangesRead). pick write (sets out s.used t.entries) out) f);
+            out = wrote_more write 0 s.used out₀ out out' whole.entries (turn one x whole.value.len (with_next_range x whole.value)).entries (omega (arith, u)) w.out (z.out ∙ ap (λ (t : Outcome RangesRead). pick write (sets out s.used t.entries) out) f);
           })
 
     -- a refusal in the turns is the read's

@@ -1,5 +1,5 @@
 -- What a range's turn comes to, and the answer of a read of all.
-use Rattle.std.specs.Prelude.{ℕ, List, [], ◌∷◌, eqb, length}
+use Rattle.std.specs.Prelude.{ℕ, zero, suc, List, [], ◌∷◌, eqb, length, get_or, Option, None, Some}
 use Rattle.rows.specs.Rows.{pick}
 use Rattle.messages_buffer.specs.Fullness.{first_no}
 use Rattle.anchors_cache.specs.declared.AnchorsCacheTransaction.{AnchorsCacheTransaction}
@@ -9,13 +9,18 @@ use Rattle.reader_rules.specs.declared.ExternalsReader.{ExternalsReader}
 use Rattle.reader_rules.specs.declared.Fixed.{Fixed}
 use Rattle.reader_rules.specs.Turns.{SoFar, RangesRead}
 use Rattle.externals_reader.specs.Answers.{ReadAllAnswer}
-use Rattle.reader_rules.specs.State.{ranges_number, settings_number}
+use Rattle.reader_rules.specs.State.{ranges_number, settings_number, no_range}
 use Rattle.reader_rules.specs.Rules.{settled, Told, added, numbered}
 use Rattle.externals_reader.specs.Calls.{reader_after}
 
 -- ---- questions 4 and 5, of the reader's pieces
 abbrev pub pieces_number : List ℕ → ℕ → List ExternalsRangeReaderState → ℕ → ℕ
 pieces_number limits most ranges len = first_no (settings_number limits most ∷ ranges_number ranges len ∷ [])
+
+-- the last of the first len ranges, if there is one
+abbrev pub last_range : ℕ → List ExternalsRangeReaderState → Option ExternalsRangeReaderState
+last_range zero ranges = None
+last_range (suc k) ranges = Some (get_or ranges k no_range)
 
 -- ---- the read
 -- a range after its turn, and what the read has come to with it

@@ -39,6 +39,11 @@ abbrev pub ranges_tell : Result CodeRanges Refusal → RangesRead → Type 0
 ranges_tell (Ok r) v = ranges_told r ≡ v
 ranges_tell (Err e) v = number_of e ≡ v.so_far.number
 
+-- the turns of all
+abbrev pub turns_tell : List ExternalsRangeReaderState → ℕ → Result CodeSoFar Refusal → RangesRead → Type 0
+turns_tell ranges len (Ok s) v = read_of (so_far_told s) ranges len ≡ v
+turns_tell ranges len (Err e) v = number_of e ≡ v.so_far.number
+
 -- and the turn of range i among the others
 abbrev pub turn_tells : List ExternalsRangeReaderState → ℕ → ℕ → Result CodeTurn Refusal → RangesRead → Type 0
 turn_tells ranges i len (Ok q) v = read_of (so_far_told q.so_far) (set ranges i q.range) len ≡ v

@@ -1,22 +1,27 @@
 // The externals reader: its ranges, its partitions, and the read of all ranges.
 // A refused call answers why and leaves reader, transaction and every output byte as at entry.
+// Arrays of a struct go to another one by a local: a field that is an array can't be moved out beside the others
+// (tried: the borrow checker refuses it).
 #![tactic(auto)]
 
-ghost use Rattle.std.specs.Prelude.{◌<◌, ◌^◌, ◌≡◌, [], Ok};
-ghost use Rattle.reader_rules.specs.State.{state_number, settings_number, open_ranges_limit_of, with_state};
+ghost use Rattle.std.specs.Prelude.{map, length, false, ◌+◌, ◌≤◌, ◌<◌, ◌^◌, ◌≡◌, [], Ok};
+ghost use Rattle.cache_rules.specs.Rules.{max_history};
+ghost use Rattle.anchors_cache.specs.Tables.{tables_bytes};
+ghost use Rattle.reader_rules.specs.State.{state_number, settings_number, open_ranges_limit_of, with_state, with_mark};
 ghost use Rattle.refusals.specs.Refusals.{number};
 ghost use Rattle.externals_reader.specs.Answers.{reader_done_of, partition_ids_of, next_range_of, read_all_answer_of};
-ghost use Rattle.externals_reader.specs.Calls.{handed_in, new_call, reset_call, drop_last_call, set_limits_call, partition_ids_call, next_range_call, unchanged, reader_after, read_all_call};
-ghost use Rattle.reader_rules.specs.Rules.{fixed_of};
+ghost use Rattle.externals_reader.specs.Calls.{handed_in, new_call, reset_call, drop_last_call, set_limits_call, partition_ids_call, next_range_call, imported_in, unchanged, reader_after, read_all_call};
+ghost use Rattle.reader_rules.specs.Rules.{fixed_of, processed_of};
 ghost use Rattle.externals_reader.specs.Locals.{read_answered};
 ghost use Rattle.externals_reader.specs.Ready.{ranges_told};
 
-use anchors_cache::AnchorsCacheTransaction;
-use ext_types::{ChainTime, ExternalKey};
-use range_rules::{ExternalsRangeReaderState, NO_COUNTS, ReadCounts};
+use anchors_cache::{AnchorsCache, AnchorsCacheTransaction};
+use ext_types::ChainTime;
+use range_reader::Lent;
+use range_rules::{ExternalsRangeReaderState, NO_COUNTS, ProcessedTo, ReadCounts};
 use reader_rules::{
-    ExternalsReader, ExternalsReaderState, Fixed, GetNextMessageGroupMode, MAX_OPEN_RANGES,
-    MAX_RANGES, MsgsExecutionParams,
+    ExternalsPartitionReaderState, ExternalsReader, ExternalsReaderState, Fixed,
+    GetNextMessageGroupMode, MAX_OPEN_RANGES, MAX_RANGES, MsgsExecutionParams,
 };
 use refusals::Refusal;
 use shard_ident::ShardIdent;
@@ -73,7 +78,7 @@ pub fn check_state(state: ExternalsReaderState) -> Result<(), Refusal>
 }
 
 // Question 4, of the limits and of the open-ranges limit.
-#[tactic(auto, using(crate::proofs::Refused::next_yes, crate::proofs::Refused::next_no, messages_buffer::proofs::Laws::first_alone, std::proofs::lemmas::Bool::Decides::nat_tests), unfolding(reader_rules::specs::State::settings_number))]
+#[tactic(auto, using(range_reader::proofs::Numbers::questions, std::proofs::lemmas::Bool::Decides::nat_tests), unfolding(reader_rules::specs::State::settings_number))]
 pub fn check_settings(limits: [u16; 8], open_ranges_limit: u8) -> Result<(), Refusal>
     ensures { number result ≡ settings_number limits open_ranges_limit }
 {
@@ -88,10 +93,7 @@ pub fn check_settings(limits: [u16; 8], open_ranges_limit: u8) -> Result<(), Ref
 pub fn open_ranges_limit(params: MsgsExecutionParams) -> usize
     ensures { result ≡ open_ranges_limit_of params }
 {
-    if params.open_ranges_limit < 2 {
-        return 2;
-    }
-    usize::from(params.open_ranges_limit)
+    usize::from(params.open_ranges_limit).max(2)
 }
 
 fn with_state(reader: ExternalsReader, state: ExternalsReaderState) -> ExternalsReader
@@ -101,6 +103,21 @@ fn with_state(reader: ExternalsReader, state: ExternalsReaderState) -> Externals
         reader_state: state,
         ..reader
     }
+}
+
+// `new` over what a reader holds, whatever its mark.
+#[tactic(auto, using(crate::proofs::Refused::change_done, crate::proofs::Refused::change_refused, crate::proofs::Laws::reader_few), unfolding(crate::specs::Calls::new_call))]
+pub fn renew(reader: ExternalsReader) -> Result<ExternalsReader, Refusal>
+    ensures { let handed = with_mark reader false in
+        reader_done_of handed result ≡ new_call handed }
+{
+    let handed = ExternalsReader {
+        all_ranges_fully_read: false,
+        ..reader
+    };
+    questions::check_reader(handed)?;
+    let state = ranges::entered(handed.buffer_limits_by_partitions, handed.reader_state);
+    Ok(with_state(handed, state))
 }
 
 // A reader over a state: each partition that has a limit gets a record, if it has none, and a range is fully read
@@ -116,7 +133,7 @@ pub fn new(
     ensures { let handed = handed_in for_shard_id block_seqno next_chain_time msgs_exec_params buffer_limits_by_partitions reader_state in
         reader_done_of handed result ≡ new_call handed }
 {
-    let reader = ExternalsReader {
+    renew(ExternalsReader {
         for_shard_id,
         block_seqno,
         next_chain_time,
@@ -124,10 +141,7 @@ pub fn new(
         buffer_limits_by_partitions,
         reader_state,
         all_ranges_fully_read: false,
-    };
-    questions::check_reader(reader)?;
-    let state = ranges::entered(buffer_limits_by_partitions, reader_state);
-    Ok(with_state(reader, state))
+    })
 }
 
 #[tactic(auto, using(crate::proofs::Refused::change_done, crate::proofs::Refused::change_refused), unfolding(crate::specs::Calls::reset_call))]
@@ -151,7 +165,7 @@ pub fn drop_last_read_to_anchor_chain_time(
     Ok(with_state(reader, ranges::with_last(reader.reader_state, None)))
 }
 
-#[tactic(auto, using(crate::proofs::Refused::next_yes, crate::proofs::Refused::next_no, messages_buffer::proofs::Laws::first_alone, crate::proofs::Refused::change_done, crate::proofs::Refused::change_refused), unfolding(crate::specs::Calls::set_limits_call, reader_rules::specs::State::settled_number))]
+#[tactic(auto, using(range_reader::proofs::Numbers::questions, crate::proofs::Refused::change_done, crate::proofs::Refused::change_refused), unfolding(crate::specs::Calls::set_limits_call, reader_rules::specs::State::settled_number))]
 pub fn set_buffer_limits_by_partition(
     reader: ExternalsReader,
     limits: [u16; 8],
@@ -176,6 +190,7 @@ pub fn get_partition_ids(reader: ExternalsReader) -> Result<[bool; 8], Refusal>
 }
 
 // The range that a block would append: it begins where the last one ends.
+#[tactic(auto, using(crate::proofs::Refused::next_refused, crate::proofs::Laws::state_few), unfolding(crate::specs::Calls::next_range_call))]
 pub fn create_next_externals_range_state(
     reader: ExternalsReader,
 ) -> Result<ExternalsRangeReaderState, Refusal>
@@ -183,23 +198,31 @@ pub fn create_next_externals_range_state(
 {
     let state = reader.reader_state;
     check_state(state)?;
-    let last = state.ranges[rows::last_place(state.len)];
+    let last = next::last_range(&state.ranges, state.len);
     Ok(next::next_range(
         reader.block_seqno,
         reader.next_chain_time,
         state.by_partitions,
         last,
-        state.len,
     ))
 }
 
+// The processed positions, as a range's read takes them.
+pub fn processed_in(parts: [ExternalsPartitionReaderState; 8]) -> [ProcessedTo; 8]
+    ensures { result ≡ map processed_of parts }
+{
+    parts.map(ranges::processed_of)
+}
+
 fn fixed_at_entry(
+    tables: &[u8],
+    cache: AnchorsCache,
     reader: ExternalsReader,
     mode: GetNextMessageGroupMode,
-    imported: Option<ExternalKey>,
     room: usize,
 ) -> Fixed
-    ensures { (result ≡ fixed_of reader mode imported room) × (room < 2 ^ 64) }
+    requires { (cache.history_first + cache.history_len ≤ max_history) × (tables_bytes ≤ length tables.now) }
+    ensures { (result ≡ fixed_of reader mode (imported_in tables.now cache) room) × (room < 2 ^ 64) }
 {
     let limits = reader.buffer_limits_by_partitions;
     let by_partitions = reader.reader_state.by_partitions;
@@ -211,8 +234,8 @@ fn fixed_at_entry(
         limits,
         mode,
         by_partitions,
-        processed: ranges::processed_in(by_partitions),
-        imported,
+        processed: processed_in(by_partitions),
+        imported: ranges::last_imported(tables, cache),
         room,
     }
 }
@@ -250,14 +273,14 @@ fn reader_after(reader: ExternalsReader, r: RangesRead) -> ExternalsReader
 }
 
 // The answer of a read that was not refused.
+// `unwrap_or` drops a refusal (no plainer): the rules speak of the transaction after the pops; refused pops leave it.
 fn answer_of(
-    tables: &[u8],
-    area: &[u8],
+    lent: Lent<'_>,
     t: AnchorsCacheTransaction,
     reader: ExternalsReader,
     r: RangesRead,
 ) -> ReadIntoBuffers
-    ensures { read_all_answer_of reader t (Ok result) ≡ read_answered tables.now area.now t reader (ranges_told r) }
+    ensures { read_all_answer_of reader t (Ok result) ≡ read_answered lent.entry.tables.now lent.entry.area.now t reader (ranges_told r) }
 {
     let so_far = r.so_far;
     ReadIntoBuffers {
@@ -265,7 +288,7 @@ fn answer_of(
         used: so_far.used,
         counts: so_far.counts,
         reader: reader_after(reader, r),
-        state: anchors_cache::pop_fronts(tables, area, t, so_far.pops).unwrap_or(t),
+        state: anchors_cache::pop_fronts(lent.tables, lent.area, t, so_far.pops).unwrap_or(t),
     }
 }
 
@@ -273,27 +296,24 @@ fn answer_of(
 // refusal in a later range leaves the entries of the first unwritten. Where that one used no byte there is nothing to
 // write, and it is the answer.
 pub fn read_into_buffers(
-    tables: &[u8],
-    area: &[u8],
+    lent: Lent<'_>,
     t: AnchorsCacheTransaction,
-    routes: &[u8],
     reader: ExternalsReader,
     mode: GetNextMessageGroupMode,
     out: &mut [u8],
 ) -> Result<ReadIntoBuffers, Refusal>
-    ensures { record { answer = read_all_answer_of reader t result; out = out.new } ≡ read_all_call tables.now area.now t routes.now reader mode out.old }
+    ensures { record { answer = read_all_answer_of reader t result; out = out.new } ≡ read_all_call lent.entry.tables.now lent.entry.area.now t lent.entry.routes.now reader mode out.old }
 {
-    questions::check_read(tables, area, t, routes, reader)?;
+    questions::check_read(lent, t, reader)?;
     if reader.all_ranges_fully_read {
         return Ok(unread(reader, t));
     }
-    let imported = ranges::last_imported(tables, t.cache);
-    let x = fixed_at_entry(reader, mode, imported, out.len());
+    let x = fixed_at_entry(lent.tables, t.cache, reader, mode, out.len());
     let start = reader.reader_state;
-    let checked = turns::ranges_read(tables, area, t, routes, x, start, false, &mut *out)?;
+    let checked = turns::ranges_read(lent, t, x, start, false, &mut *out)?;
     if checked.so_far.used == 0 {
-        return Ok(answer_of(tables, area, t, reader, checked));
+        return Ok(answer_of(lent, t, reader, checked));
     }
-    let r = turns::ranges_read(tables, area, t, routes, x, start, true, &mut *out)?;
-    Ok(answer_of(tables, area, t, reader, r))
+    let r = turns::ranges_read(lent, t, x, start, true, &mut *out)?;
+    Ok(answer_of(lent, t, reader, r))
 }

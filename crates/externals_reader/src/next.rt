@@ -1,17 +1,16 @@
 // The next range.
-ghost use Rattle.std.specs.Prelude.{◌-◌, ◌≡◌, List, map, get_or, replicate};
-ghost use Rattle.messages_buffer.specs.Fullness.{no_partition};
+ghost use Rattle.std.specs.Prelude.{◌≤◌, ◌≡◌, ℕ, List, map};
 ghost use Rattle.range_rules.specs.declared.ExternalsRangeReaderState.{ExternalsRangeReaderState};
-ghost use Rattle.range_rules.specs.Rules.{no_key};
-ghost use Rattle.reader_rules.specs.State.{no_range};
-ghost use Rattle.reader_rules.specs.Rules.{last_or, next_partition, range_from, next_range, wants_next, read_of};
+ghost use Rattle.reader_rules.specs.State.{max_ranges};
+ghost use Rattle.externals_reader.specs.Locals.{last_range};
+ghost use Rattle.reader_rules.specs.Rules.{next_partition, range_from, next_range, wants_next, read_of};
 ghost use Rattle.externals_reader.specs.Ready.{so_far_told};
 
 use crate::SoFar;
 use ext_types::{ChainTime, ExternalKey, NO_KEY};
-use messages_buffer::{ExternalsPartitionRangeReaderState, NO_PARTITION};
+use messages_buffer::ExternalsPartitionRangeReaderState;
 use range_rules::ExternalsRangeReaderState;
-use reader_rules::{ExternalsPartitionReaderState, Fixed, GetNextMessageGroupMode};
+use reader_rules::{ExternalsPartitionReaderState, Fixed, GetNextMessageGroupMode, MAX_RANGES};
 
 // A partition of a new range: an empty buffer, both offsets at the current one.
 fn next_partition(p: ExternalsPartitionReaderState) -> ExternalsPartitionRangeReaderState
@@ -33,13 +32,15 @@ fn next_partitions(
     parts.map(next_partition)
 }
 
-fn last_to(last: ExternalsRangeReaderState, len: usize) -> ExternalKey
-    ensures { (ranges : List ExternalsRangeReaderState) → get_or ranges (len - 1) no_range ≡ last → result ≡ last_or no_key (λ q. q.to) len ranges }
+// The last of the first `len` ranges, if there is one.
+pub(crate) fn last_range(
+    ranges: &[ExternalsRangeReaderState; MAX_RANGES],
+    len: usize,
+) -> Option<ExternalsRangeReaderState>
+    requires { len ≤ max_ranges }
+    ensures { result ≡ last_range len ranges.now }
 {
-    if len == 0 {
-        return NO_KEY;
-    }
-    last.to
+    ranges[..len].last().copied()
 }
 
 fn range_from(
@@ -61,52 +62,41 @@ fn range_from(
     }
 }
 
-pub(crate) fn no_range() -> ExternalsRangeReaderState
-    ensures { result ≡ range_from 0 no_key (record { 0 = 0 }) (replicate 8 no_partition) }
-{
-    range_from(0, NO_KEY, ChainTime(0), [NO_PARTITION; 8])
-}
-
-// The range behind the last one, which is not looked at where there is none.
+// The range behind the last one, or the first one.
 pub(crate) fn next_range(
     seqno: u32,
     time: ChainTime,
     parts: [ExternalsPartitionReaderState; 8],
-    last: ExternalsRangeReaderState,
-    len: usize,
+    last: Option<ExternalsRangeReaderState>,
 ) -> ExternalsRangeReaderState
-    ensures { (ranges : List ExternalsRangeReaderState) → get_or ranges (len - 1) no_range ≡ last → result ≡ next_range seqno time parts ranges len }
+    ensures { (ranges : List ExternalsRangeReaderState) (len : ℕ) → last ≡ last_range len ranges → result ≡ next_range seqno time parts ranges len }
 {
-    range_from(seqno, last_to(last, len), time, next_partitions(parts))
+    let from = last.map_or(NO_KEY, |range| range.to);
+    range_from(seqno, from, time, next_partitions(parts))
 }
 
 // The one that a read appends.
 pub(crate) fn appended_range(
     x: Fixed,
-    last: ExternalsRangeReaderState,
-    len: usize,
+    last: Option<ExternalsRangeReaderState>,
 ) -> ExternalsRangeReaderState
-    ensures { (ranges : List ExternalsRangeReaderState) → get_or ranges (len - 1) no_range ≡ last → result ≡ next_range x.block_seqno x.next_chain_time x.by_partitions ranges len }
+    ensures { (ranges : List ExternalsRangeReaderState) (len : ℕ) → last ≡ last_range len ranges → result ≡ next_range x.block_seqno x.next_chain_time x.by_partitions ranges len }
 {
-    next_range(x.block_seqno, x.next_chain_time, x.by_partitions, last, len)
-}
-
-fn last_seqno(last: ExternalsRangeReaderState, len: usize) -> u32
-    ensures { (ranges : List ExternalsRangeReaderState) → get_or ranges (len - 1) no_range ≡ last → result ≡ last_or 0 (λ q. q.seqno) len ranges }
-{
-    if len == 0 {
-        return 0;
-    }
-    last.seqno
+    next_range(x.block_seqno, x.next_chain_time, x.by_partitions, last)
 }
 
 // Whether a range is appended: all are fully read, and nothing forbids it.
-pub(crate) fn wants_next(x: Fixed, s: SoFar, last: ExternalsRangeReaderState, len: usize) -> bool
-    ensures { (ranges : List ExternalsRangeReaderState) → get_or ranges (len - 1) no_range ≡ last → result ≡ wants_next x (read_of (so_far_told s) ranges len) }
+pub(crate) fn wants_next(
+    x: Fixed,
+    s: SoFar,
+    last: Option<ExternalsRangeReaderState>,
+    len: usize,
+) -> bool
+    ensures { (ranges : List ExternalsRangeReaderState) → last ≡ last_range len ranges → result ≡ wants_next x (read_of (so_far_told s) ranges len) }
 {
     s.all_read
         && matches!(x.mode, GetNextMessageGroupMode::Continue)
         && !x.params.new_is_some
         && len < crate::open_ranges_limit(x.params)
-        && last_seqno(last, len) < x.block_seqno
+        && last.map_or(0, |range| range.seqno) < x.block_seqno
 }

@@ -6,6 +6,7 @@ ghost use Rattle.externals_reader.specs.Calls.{asked_of_read};
 
 use anchors_cache::AnchorsCacheTransaction;
 use cache_rules::AREA_BYTES;
+use range_reader::Lent;
 use range_rules::ExternalsRangeReaderState;
 use reader_rules::{ExternalsReader, MAX_RANGES};
 use refusals::Refusal;
@@ -14,19 +15,19 @@ use refusals::Refusal;
 fn is_sound(low: u64, range: ExternalsRangeReaderState) -> bool
     ensures { result ≡ range_sound low range }
 {
-    low <= range.seqno as u64 && messages_buffer::check_partitions(range.by_partitions).is_ok()
+    low <= u64::from(range.seqno) && messages_buffer::check_partitions(range.by_partitions).is_ok()
 }
 
-pub(crate) fn sound_ranges(ranges: [ExternalsRangeReaderState; MAX_RANGES], len: usize) -> bool
-    requires { len ≤ max_ranges }
-    ensures { result ≡ sound_ranges_from 0 (take len ranges) }
+#[tactic(auto, using(crate::proofs::Sound::sound_fail, crate::proofs::Sound::sound_next, crate::proofs::Sound::sound_end))]
+fn sound_ranges(ranges: &[ExternalsRangeReaderState]) -> bool
+    ensures { result ≡ sound_ranges_from 0 ranges.now }
 {
     let mut low = 0;
-    for range in &ranges[..len] {
+    for range in ranges {
         if !is_sound(low, *range) {
             return false;
         }
-        low = range.seqno as u64 + 1;
+        low = u64::from(range.seqno) + 1;
     }
     true
 }
@@ -38,14 +39,14 @@ pub(crate) fn check_ranges(
 ) -> Result<(), Refusal>
     ensures { number result ≡ ranges_number ranges len }
 {
-    if MAX_RANGES < len || !sound_ranges(ranges, len) {
+    if MAX_RANGES < len || !sound_ranges(&ranges[..len]) {
         return Err(Refusal::StateUnsound);
     }
     Ok(())
 }
 
 // Questions 4 and 5.
-#[tactic(auto, using(crate::proofs::Refused::next_yes, crate::proofs::Refused::next_no, messages_buffer::proofs::Laws::first_alone), unfolding(reader_rules::specs::State::settled_number))]
+#[tactic(auto, using(range_reader::proofs::Numbers::questions), unfolding(reader_rules::specs::State::settled_number))]
 fn check_settled(reader: ExternalsReader) -> Result<(), Refusal>
     ensures { number result ≡ settled_number reader }
 {
@@ -57,7 +58,7 @@ fn check_settled(reader: ExternalsReader) -> Result<(), Refusal>
 }
 
 // Questions 2, 4 and 5.
-#[tactic(auto, using(crate::proofs::Refused::next_yes, crate::proofs::Refused::next_no, messages_buffer::proofs::Laws::first_alone), unfolding(reader_rules::specs::State::reader_number))]
+#[tactic(auto, using(range_reader::proofs::Numbers::questions), unfolding(reader_rules::specs::State::reader_number))]
 pub(crate) fn check_reader(reader: ExternalsReader) -> Result<(), Refusal>
     ensures { number result ≡ reader_number reader }
 {
@@ -66,23 +67,21 @@ pub(crate) fn check_reader(reader: ExternalsReader) -> Result<(), Refusal>
 }
 
 // Questions 1, 2, 3, 4, 5 and 9 of a read.
-#[tactic(auto, using(crate::proofs::Refused::next_yes, crate::proofs::Refused::next_no, messages_buffer::proofs::Laws::first_alone, std::proofs::lemmas::Bool::Decides::nat_tests), unfolding(crate::specs::Calls::asked_of_read))]
+#[tactic(auto, using(range_reader::proofs::Numbers::questions, std::proofs::lemmas::Bool::Decides::nat_tests), unfolding(crate::specs::Calls::asked_of_read))]
 pub(crate) fn check_read(
-    tables: &[u8],
-    area: &[u8],
+    lent: Lent<'_>,
     t: AnchorsCacheTransaction,
-    routes: &[u8],
     reader: ExternalsReader,
 ) -> Result<(), Refusal>
-    ensures { number result ≡ asked_of_read tables.now area.now t routes.now reader }
+    ensures { number result ≡ asked_of_read lent.entry.tables.now lent.entry.area.now t lent.entry.routes.now reader }
 {
-    if area.len() < AREA_BYTES {
+    if lent.area.len() < AREA_BYTES {
         return Err(Refusal::AreaTooShort);
     }
     shard_ident::check_shard(reader.for_shard_id)?;
-    router::check_routes(routes)?;
+    router::check_routes(lent.routes)?;
     check_settled(reader)?;
-    anchors_cache::check_cache(tables, area, t)?;
+    anchors_cache::check_cache(lent.tables, lent.area, t)?;
     if !t.active {
         return Err(Refusal::TransactionOpenOrNone);
     }

@@ -25,6 +25,7 @@ pub(crate) fn with_last(
     }
 }
 
+#[tactic(auto, using(std::proofs::lemmas::Bool::Decides::nat_tests), unfolding(reader_rules::specs::Rules::with_default))]
 fn with_default(limit: u16, p: ExternalsPartitionReaderState) -> ExternalsPartitionReaderState
     ensures { result ≡ with_default limit p }
 {
@@ -47,6 +48,7 @@ fn partitions_entered(
     array::from_fn(|i| with_default(limits[i], parts[i]))
 }
 
+#[tactic(auto, using(ext_types::proofs::Order::same_is_equal))]
 fn range_entered(range: ExternalsRangeReaderState) -> ExternalsRangeReaderState
     ensures { result ≡ range_entered range }
 {
@@ -56,27 +58,25 @@ fn range_entered(range: ExternalsRangeReaderState) -> ExternalsRangeReaderState
     }
 }
 
-fn ranges_entered(
-    ranges: [ExternalsRangeReaderState; MAX_RANGES],
-    len: usize,
-) -> [ExternalsRangeReaderState; MAX_RANGES]
-    requires { len ≤ max_ranges }
-    ensures { result ≡ ranges_entered len ranges }
+#[tactic(auto, using(reader_rules::proofs::Each::mapped_next, reader_rules::proofs::Each::mapped_end))]
+fn enter(ranges: &mut [ExternalsRangeReaderState])
+    ensures { ranges.new ≡ map range_entered ranges.old }
 {
-    let mut entered = ranges;
-    for range in entered[..len].iter_mut() {
+    for range in ranges {
         *range = range_entered(*range);
     }
-    entered
 }
 
 // What `new` makes of a state.
+#[tactic(auto, using(reader_rules::proofs::Each::sets_mapped))]
 pub(crate) fn entered(limits: [u16; 8], state: ExternalsReaderState) -> ExternalsReaderState
     requires { state.len ≤ max_ranges }
     ensures { result ≡ state_entered limits state }
 {
+    let mut ranges = state.ranges;
+    enter(&mut ranges[..state.len]);
     ExternalsReaderState {
-        ranges: ranges_entered(state.ranges, state.len),
+        ranges,
         by_partitions: partitions_entered(limits, state.by_partitions),
         ..state
     }
@@ -88,7 +88,7 @@ pub(crate) fn present_in(parts: [ExternalsPartitionReaderState; 8]) -> [bool; 8]
     parts.map(|p| p.present)
 }
 
-fn processed_of(p: ExternalsPartitionReaderState) -> ProcessedTo
+pub(crate) fn processed_of(p: ExternalsPartitionReaderState) -> ProcessedTo
     ensures { result ≡ processed_of p }
 {
     ProcessedTo {
@@ -97,14 +97,8 @@ fn processed_of(p: ExternalsPartitionReaderState) -> ProcessedTo
     }
 }
 
-// The processed positions, as a range's read takes them.
-pub(crate) fn processed_in(parts: [ExternalsPartitionReaderState; 8]) -> [ProcessedTo; 8]
-    ensures { result ≡ map processed_of parts }
-{
-    parts.map(processed_of)
-}
-
 // The last imported entry's id and message count. Pops never remove that entry.
+#[tactic(auto, using(anchors_cache::proofs::Laws::infos_none, anchors_cache::proofs::Laws::last_info, crate::proofs::Laws::info_in_table), unfolding(cache_rules::specs::Rules::last_of))]
 pub(crate) fn last_imported(tables: &[u8], cache: AnchorsCache) -> Option<ExternalKey>
     requires { (cache.history_first + cache.history_len ≤ max_history) × (tables_bytes ≤ length tables.now) }
     ensures { result ≡ imported_in tables.now cache }
@@ -115,6 +109,6 @@ pub(crate) fn last_imported(tables: &[u8], cache: AnchorsCache) -> Option<Extern
     let info = anchors_cache::history_row(tables, cache.history_first + cache.history_len - 1);
     Some(ExternalKey {
         anchor_id: info.id,
-        msgs_offset: info.all_exts_count as u64,
+        msgs_offset: u64::from(info.all_exts_count),
     })
 }

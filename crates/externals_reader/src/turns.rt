@@ -1,18 +1,22 @@
 // The ranges' turns in a read of all: which ranges are read, how, and what becomes of the rest.
-ghost use Rattle.std.specs.Prelude.{ℕ, ◌+◌, ◌<◌, ◌^◌, ◌≡◌, not, ◌&&◌, eqb, get_or};
+// `write` is a flag (no plainer): both runs are one code, as range_reader's `read_or_check` says.
+// Arrays of a struct go to another one by a local: a field that is an array can't be moved out beside the others
+// (tried: the borrow checker refuses it).
+ghost use Rattle.std.specs.Prelude.{ℕ, List, length, ◌++◌, ◌+◌, ◌<◌, ◌^◌, ◌≡◌, not, ◌&&◌, eqb, get_or};
 ghost use Rattle.range_reader.specs.Ready.{Tells};
 ghost use Rattle.range_reader.specs.Calls.{read_answer_of};
 ghost use Rattle.range_rules.specs.declared.ExternalsRangeReaderState.{ExternalsRangeReaderState};
-ghost use Rattle.reader_rules.specs.Rules.{skip_offset_of, reached, before_skip_offsets, waits, is_skipped, mode_for, settled, sums, counts_added, ranges_read, time_saved, nothing_read, at_entry};
+ghost use Rattle.reader_rules.specs.Rules.{skip_offset_of, reached, before_skip_offsets, waits, is_skipped, mode_for, settled, sums, counts_added, turns, ranges_read, read_of, time_saved, nothing_read, at_entry};
+ghost use Rattle.range_rules.specs.Rules.{silent};
 ghost use Rattle.externals_reader.specs.Calls.{told, window_read};
 ghost use Rattle.externals_reader.specs.Locals.{turn_done};
-ghost use Rattle.externals_reader.specs.Ready.{so_far_told, done_told, answer_told, ranges_tell, Addable, TurnReady, RangeWrote, TurnRoom, Start, TurnWrote};
+ghost use Rattle.externals_reader.specs.Ready.{so_far_told, done_told, answer_told, ranges_tell, turns_tell, Addable, TurnReady, RangeWrote, TurnRoom, Start, TurnWrote};
 
 use crate::{RangesRead, SoFar, TurnDone, next};
 use anchors_cache::AnchorsCacheTransaction;
 use ext_types::ChainTime;
 use messages_buffer::ExternalsPartitionRangeReaderState;
-use range_reader::{RangeSettings, ReadExternals};
+use range_reader::{Lent, RangeSettings, ReadExternals};
 use range_rules::{ExternalsRangeReaderState, NO_COUNTS, ReadCounts, ReadNextExternalsMode};
 use reader_rules::{
     ExternalsPartitionReaderState, ExternalsReaderState, Fixed, GetNextMessageGroupMode,
@@ -132,17 +136,16 @@ fn settled(x: Fixed, range: ExternalsRangeReaderState) -> ExternalsRangeReaderSt
 }
 
 // One range's read, at the first free place of the output.
+#[tactic(auto, using(crate::proofs::TurnLaws::range_told))]
 fn range_turn(
-    tables: &[u8],
-    area: &[u8],
+    lent: Lent<'_>,
     t: AnchorsCacheTransaction,
-    routes: &[u8],
     x: Fixed,
     range: ExternalsRangeReaderState,
     write: bool,
     out: &mut [u8],
 ) -> Result<ReadExternals, Refusal>
-    ensures { RangeWrote write tables.now area.now t routes.now x range out.old out.new (read_answer_of range t result) }
+    ensures { RangeWrote write lent.entry.tables.now lent.entry.area.now t lent.entry.routes.now x range out.old out.new (read_answer_of range t result) }
 {
     let limits = x.limits;
     let processed = x.processed;
@@ -153,15 +156,11 @@ fn range_turn(
         timeout: x.params.externals_expire_timeout,
         mode: mode_for(x, range.seqno),
     };
-    if write {
-        return range_reader::read_externals_into_buffers(
-            tables, area, t, routes, settings, range, out,
-        );
-    }
-    range_reader::check_read_externals(tables, area, t, routes, settings, range, out)
+    range_reader::read_or_check(lent, t, settings, range, write, out)
 }
 
 // What a range's read makes of what the turns before came to. How the range was before is no part of that.
+#[tactic(auto, using(crate::proofs::TurnLaws::done_read))]
 fn after_turn(x: Fixed, s: SoFar, read: ReadExternals) -> TurnDone
     requires { TurnReady (so_far_told s) (answer_told read) }
     ensures { (range : ExternalsRangeReaderState) → done_told result ≡ turn_done x (so_far_told s) range (told (answer_told read)) }
@@ -194,11 +193,10 @@ fn stops(free: u16, fully_read: bool) -> bool
 }
 
 // The turn of a range, wherever it stands among the others.
+// `unwrap_or` drops a refusal (no plainer): the rules read on from the transaction that refused pops leave.
 fn turn(
-    tables: &[u8],
-    area: &[u8],
+    lent: Lent<'_>,
     t: AnchorsCacheTransaction,
-    routes: &[u8],
     x: Fixed,
     s: SoFar,
     range: ExternalsRangeReaderState,
@@ -206,7 +204,7 @@ fn turn(
     out: &mut [u8],
 ) -> Result<TurnDone, Refusal>
     requires { TurnRoom x (so_far_told s) out.old }
-    ensures { TurnWrote write (window_read tables.now area.now t routes.now x) x (so_far_told s) range out.old out.new result }
+    ensures { TurnWrote write (window_read lent.entry.tables.now lent.entry.area.now t lent.entry.routes.now x) x (so_far_told s) range out.old out.new result }
 {
     if range.fully_read {
         return Ok(TurnDone { so_far: s, range });
@@ -220,56 +218,60 @@ fn turn(
             range,
         });
     }
-    let now = anchors_cache::pop_fronts(tables, area, t, s.pops).unwrap_or(t);
-    let read = range_turn(
-        tables,
-        area,
-        now,
-        routes,
-        x,
-        range,
-        write,
-        &mut out[s.used..],
-    )?;
+    let now = anchors_cache::pop_fronts(lent.tables, lent.area, t, s.pops).unwrap_or(t);
+    let read = range_turn(lent, now, x, range, write, &mut out[s.used..])?;
     Ok(after_turn(x, s, read))
 }
 
-// Every range in turn, until one is refused or a full buffer stops the read; where all are fully read, the next one, if
-// one is wanted. The ranges are a local that is changed in place.
-pub(crate) fn ranges_read(
-    tables: &[u8],
-    area: &[u8],
+// Every range in turn, in place, until one is refused or a full buffer stops the read; whatever stands behind them.
+fn turns_taken(
+    lent: Lent<'_>,
     t: AnchorsCacheTransaction,
-    routes: &[u8],
+    x: Fixed,
+    ranges: &mut [ExternalsRangeReaderState],
+    write: bool,
+    out: &mut [u8],
+) -> Result<SoFar, Refusal>
+    requires { Start x (read_of nothing_read ranges.old (length ranges.old)) out.old }
+    ensures { (rest : List ExternalsRangeReaderState) → Tells write 0 out.old out.new (turns_tell (ranges.new ++ rest) (length ranges.old) result) (turns (window_read lent.entry.tables.now lent.entry.area.now t lent.entry.routes.now x) x (length ranges.old) 0 (silent (read_of nothing_read (ranges.old ++ rest) (length ranges.old)))) }
+{
+    let mut s = nothing_read();
+    for range in ranges {
+        if s.stopped {
+            break;
+        }
+        let done = turn(lent, t, x, s, *range, write, &mut *out)?;
+        *range = done.range;
+        s = done.so_far;
+    }
+    Ok(s)
+}
+
+// Every range in turn; where all are fully read, the next one, if one is wanted.
+pub(crate) fn ranges_read(
+    lent: Lent<'_>,
+    t: AnchorsCacheTransaction,
     x: Fixed,
     start: ExternalsReaderState,
     write: bool,
     out: &mut [u8],
 ) -> Result<RangesRead, Refusal>
     requires { Start x (at_entry start) out.old }
-    ensures { Tells write 0 out.old out.new (ranges_tell result) (ranges_read (window_read tables.now area.now t routes.now x) x (at_entry start)) }
+    ensures { Tells write 0 out.old out.new (ranges_tell result) (ranges_read (window_read lent.entry.tables.now lent.entry.area.now t lent.entry.routes.now x) x (at_entry start)) }
 {
     let mut ranges = start.ranges;
     let len = start.len;
-    let mut s = nothing_read();
-    for at in 0..len {
-        if s.stopped {
-            break;
-        }
-        let done = turn(tables, area, t, routes, x, s, ranges[at], write, out)?;
-        ranges[at] = done.range;
-        s = done.so_far;
-    }
-    let last = ranges[rows::last_place(len)];
-    if !next::wants_next(x, s, last, len) {
+    let so_far = turns_taken(lent, t, x, &mut ranges[..len], write, &mut *out)?;
+    let last = next::last_range(&ranges, len);
+    if !next::wants_next(x, so_far, last, len) {
         return Ok(RangesRead {
-            so_far: s,
+            so_far,
             ranges,
             len,
         });
     }
-    let fresh = next::appended_range(x, last, len);
-    let more = turn(tables, area, t, routes, x, s, fresh, write, out)?;
+    let fresh = next::appended_range(x, last);
+    let more = turn(lent, t, x, so_far, fresh, write, out)?;
     ranges[len] = more.range;
     Ok(RangesRead {
         so_far: more.so_far,

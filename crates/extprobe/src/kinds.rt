@@ -2,28 +2,31 @@
 ghost use Rattle.std.specs.Prelude.{◌≡◌, IfErr};
 ghost use Rattle.refusals.specs.Refusals.{number_of};
 
+use anchors_cache::{ANCHOR_LEN, INFO_LEN};
 use cache_rules::AREA_BYTES;
+use probe_reader::functions::FUNCTIONS;
+use probe_reader::given::{PARTITION_LEN, RANGE_HEAD};
 use refusals::Refusal;
 
 // What a record is, by the number that it begins with.
 #[derive(Clone, Copy, Debug, PartialEq, Eq)]
 pub enum Kind {
-    Range = 257,
-    Partition = 258,
-    Marks = 259,
-    Places = 260,
-    Limits = 261,
-    History = 262,
-    Cached = 263,
-    Area = 264,
-    Trim = 272,
-    One = 273,
-    Took = 274,
-    Function = 275,
-    InfoAt = 276,
-    InRange = 277,
-    New = 278,
-    Info = 279,
+    Range,
+    Partition,
+    Marks,
+    Places,
+    Limits,
+    History,
+    Cached,
+    Area,
+    Trim,
+    One,
+    Took,
+    Function,
+    InfoAt,
+    InRange,
+    New,
+    Info,
 }
 
 impl TryFrom<u16> for Kind {
@@ -33,22 +36,22 @@ impl TryFrom<u16> for Kind {
 
     fn try_from(number: u16) -> Result<Kind, Refusal> {
         match number {
-            257 => Ok(Kind::Range),
-            258 => Ok(Kind::Partition),
-            259 => Ok(Kind::Marks),
-            260 => Ok(Kind::Places),
-            261 => Ok(Kind::Limits),
-            262 => Ok(Kind::History),
-            263 => Ok(Kind::Cached),
-            264 => Ok(Kind::Area),
-            272 => Ok(Kind::Trim),
-            273 => Ok(Kind::One),
-            274 => Ok(Kind::Took),
-            275 => Ok(Kind::Function),
-            276 => Ok(Kind::InfoAt),
-            277 => Ok(Kind::InRange),
-            278 => Ok(Kind::New),
-            279 => Ok(Kind::Info),
+            0x0101 => Ok(Kind::Range),
+            0x0102 => Ok(Kind::Partition),
+            0x0103 => Ok(Kind::Marks),
+            0x0104 => Ok(Kind::Places),
+            0x0105 => Ok(Kind::Limits),
+            0x0106 => Ok(Kind::History),
+            0x0107 => Ok(Kind::Cached),
+            0x0108 => Ok(Kind::Area),
+            0x0110 => Ok(Kind::Trim),
+            0x0111 => Ok(Kind::One),
+            0x0112 => Ok(Kind::Took),
+            0x0113 => Ok(Kind::Function),
+            0x0114 => Ok(Kind::InfoAt),
+            0x0115 => Ok(Kind::InRange),
+            0x0116 => Ok(Kind::New),
+            0x0117 => Ok(Kind::Info),
             _ => Err(Refusal::Malformed),
         }
     }
@@ -62,23 +65,25 @@ fn is_partition(p: &[u8], at: usize) -> bool {
     records::is_byte_within(p, at, 0, 7)
 }
 
-// The marks of a range and of its eight partitions are 0 or 1.
+// The marks of a range and of its eight partitions are 0 or 1. probe_reader cuts the rows as well: out of a function
+// for both, its loop's proof lacks their width (tried).
 fn has_marks(p: &[u8]) -> bool {
-    let partitions = p.get(49..).unwrap_or_default();
-    is_flag(p, 48) && partitions.chunks_exact(13).all(|row| is_flag(row, 0))
+    let partitions = p.get(RANGE_HEAD..).unwrap_or_default();
+    let mut rows = partitions.chunks_exact(PARTITION_LEN);
+    is_flag(p, RANGE_HEAD - 1) && rows.all(|row| is_flag(row, 0))
 }
 
 impl Kind {
-    // How long its payload is; a cached anchor's has 33 bytes for each message.
+    // How long its payload is; a cached anchor's ends in the count of its messages and these.
     fn length(self, p: &[u8]) -> usize {
         match self {
-            Kind::Range => 153,
+            Kind::Range => RANGE_HEAD + 8 * PARTITION_LEN,
             Kind::Partition => 18,
             Kind::Marks => 10,
             Kind::Places | Kind::Area => 4,
             Kind::Limits => 16,
-            Kind::History | Kind::Info => 52,
-            Kind::Cached => 50 + 33 * usize::from(rows::num_at::<u16>(p, 48)),
+            Kind::History | Kind::Info => INFO_LEN,
+            Kind::Cached => records::anchor_bytes(rows::num_at(p, ANCHOR_LEN - 2)),
             Kind::Trim | Kind::InfoAt => 8,
             Kind::One => 5,
             Kind::Took => 9,
@@ -99,7 +104,7 @@ impl Kind {
             Kind::One => is_flag(p, 4),
             Kind::Took => is_partition(p, 4),
             Kind::Function => {
-                records::is_byte_within(p, 0, 1, 22) && is_partition(p, 1) && is_flag(p, 2)
+                records::is_byte_within(p, 0, 1, FUNCTIONS) && is_partition(p, 1) && is_flag(p, 2)
             }
             Kind::Places
             | Kind::Limits
@@ -112,13 +117,12 @@ impl Kind {
             | Kind::Info => true,
         }
     }
-}
 
-// The kind of a record with this number, if it is well made: it comes behind the settings.
-pub fn check(number: u64, kind: u16, p: &[u8]) -> Result<Kind, Refusal> {
-    let kind = Kind::try_from(kind)?;
-    if number < 3 || p.len() != kind.length(p) || !kind.has_fields(p) {
-        return Err(Refusal::Malformed);
+    // Question 17 of a record with this number: it comes behind the settings, and is well made.
+    pub fn check(self, number: u64, p: &[u8]) -> Result<(), Refusal> {
+        if number < 3 || p.len() != self.length(p) || !self.has_fields(p) {
+            return Err(Refusal::Malformed);
+        }
+        Ok(())
     }
-    Ok(kind)
 }

@@ -13,16 +13,16 @@ use streams::Cut;
 // The most of a session.
 const SESSION_BYTES: usize = 131_072;
 
-// A session of a list: how many bytes it has, and whether it is one of extread's.
+// A session of a list, and whether it is one of extread's.
 #[derive(Clone, Copy, Debug)]
-struct Framed {
-    len: usize,
+struct Framed<'a> {
+    session: &'a [u8],
     plain: bool,
 }
 
 // The next session of a list: its length, 4 bytes, then 1 for one of extread's or 0, then so many bytes. None where the
 // list is over; an error where it goes on and has no session that can be run.
-fn read_session(rt: &HostRuntime, bytes: &mut [u8]) -> io::Result<Option<Framed>> {
+fn read_session<'a>(rt: &HostRuntime, bytes: &'a mut [u8]) -> io::Result<Option<Framed<'a>>> {
     let mut head = [0; 5];
     match streams::fill(&mut rt.stdin(), &mut head) {
         Ok(5) => {}
@@ -34,8 +34,8 @@ fn read_session(rt: &HostRuntime, bytes: &mut [u8]) -> io::Result<Option<Framed>
     let Some(session) = bytes.get_mut(..len) else {
         return Err(ErrorKind::InvalidInput.into());
     };
-    match streams::fill(&mut rt.stdin(), session) {
-        Ok(n) if n == len => Ok(Some(Framed { len, plain })),
+    match streams::fill(&mut rt.stdin(), &mut *session) {
+        Ok(n) if n == len => Ok(Some(Framed { session, plain })),
         _ => Err(ErrorKind::UnexpectedEof.into()),
     }
 }
@@ -52,14 +52,14 @@ fn print_count(rt: &HostRuntime, name: &[u8], n: u64) -> io::Result<()> {
 }
 
 // Sessions one after the other, each under a line `session` with its number; behind the last one stands their number.
+// The input says where they end, so the loop counts as far as a number goes: it has to end (no plainer).
 fn replay(rt: &HostRuntime, bytes: &mut [u8; SESSION_BYTES], run: &mut Run) -> io::Result<()> {
     for k in 0..u64::MAX {
         match read_session(rt, bytes) {
-            Ok(Some(Framed { len, plain })) => {
+            Ok(Some(framed)) => {
                 print_count(rt, b"session", k)?;
-                run.begin(plain);
-                let session = bytes.get(..len).unwrap_or_default();
-                run.records(&mut rt.stdout(), session, false)?;
+                run.begin(framed.plain);
+                run.records(&mut rt.stdout(), framed.session, false)?;
             }
             Ok(None) => return print_count(rt, b"sessions", k),
             Err(_) => {

@@ -1,6 +1,6 @@
 // A session: its records one after the other, until it ends or one is refused.
 // Those of extread go to `session::step`; after each the state follows.
-use crate::kinds::{self, Kind};
+use crate::kinds::Kind;
 use crate::store::Store;
 use anchors_cache::AnchorsCacheTransaction;
 use ext_types::ChainTime;
@@ -27,27 +27,11 @@ pub struct Run {
 
 // The mode of a read that is taken; none for any other record.
 fn read_mode(session: Session, record: &[u8]) -> Option<GetNextMessageGroupMode> {
-    let is_do = rows::num_at::<u16>(record, 0) == u16::from(records::Kind::Do);
-    if !is_do || !session_state::is_taken(session, record) {
-        return None;
-    }
-    match Do::from(rows::byte_at(record, 2)) {
-        Do::ReadContinue => Some(GetNextMessageGroupMode::Continue),
-        Do::ReadRefill => Some(GetNextMessageGroupMode::Refill),
+    let kind = session_state::taken_kind(session, record)?;
+    match (kind, Do::from(rows::byte_at(record, 2))) {
+        (records::Kind::Do, Do::Read(mode)) => Some(mode),
         _ => None,
     }
-}
-
-// `new` over what the reader holds.
-fn renewed(reader: ExternalsReader) -> Result<ExternalsReader, Refusal> {
-    externals_reader::new(
-        reader.for_shard_id,
-        reader.block_seqno,
-        reader.next_chain_time,
-        reader.msgs_exec_params,
-        reader.buffer_limits_by_partitions,
-        reader.reader_state,
-    )
 }
 
 // The next record, behind its length of 4 bytes, and what follows it; none where the input ends, or ends inside one.
@@ -56,45 +40,48 @@ fn split_record(bytes: &[u8]) -> Option<(&[u8], &[u8])> {
     rest.split_at_checked(u32::from_le_bytes(*length) as usize)
 }
 
+// What a call leaves to the session.
+trait Kept: Copy {
+    fn keep(self, run: &mut Run);
+}
+
+impl Kept for AnchorsCacheTransaction {
+    fn keep(self, run: &mut Run) {
+        run.session.transaction = self;
+    }
+}
+
+impl Kept for ExternalsReader {
+    fn keep(self, run: &mut Run) {
+        run.reader = self;
+    }
+}
+
 // What the records do.
 impl Run {
     // The record is refused, and the session ends.
     fn bad(&mut self, refusal: Refusal) {
-        self.session = session_state::bad(&mut self.text, self.session, refusal);
+        self.session = session_state::bad(&mut self.text, self.session, refusal.into());
     }
 
-    // After a call of the cache that prints nothing.
-    fn take_cache(&mut self, left: Result<AnchorsCacheTransaction, Refusal>) {
+    // After a call that prints nothing.
+    fn take<T: Kept>(&mut self, left: Result<T, Refusal>) {
         match left {
-            Ok(cache) => self.session.transaction = cache,
+            Ok(value) => value.keep(self),
             Err(refusal) => self.bad(refusal),
         }
     }
 
-    // After a reader's call that prints nothing.
-    fn take_reader(&mut self, left: Result<ExternalsReader, Refusal>) {
-        match left {
-            Ok(reader) => self.reader = reader,
-            Err(refusal) => self.bad(refusal),
-        }
-    }
-
-    // The number of a call, 0 where it is done.
-    fn tell<T: Copy>(&mut self, name: &[u8], left: Result<T, Refusal>) {
-        let number = left.map_or_else(u8::from, |_| 0);
+    // After a call whose number is told, 0 where it is done.
+    fn tell<T: Kept>(&mut self, name: &[u8], left: Result<T, Refusal>) {
+        let number = match left {
+            Ok(value) => {
+                value.keep(self);
+                0
+            }
+            Err(refusal) => u8::from(refusal),
+        };
         self.session.at = text::put_call(&mut self.text, self.session.at, name, number);
-    }
-
-    // After a call of the cache whose number is told.
-    fn tell_cache(&mut self, name: &[u8], left: Result<AnchorsCacheTransaction, Refusal>) {
-        self.session.transaction = left.unwrap_or(self.session.transaction);
-        self.tell(name, left);
-    }
-
-    // After a reader's call whose number is told.
-    fn tell_reader(&mut self, name: &[u8], left: Result<ExternalsReader, Refusal>) {
-        self.reader = left.unwrap_or(self.reader);
-        self.tell(name, left);
     }
 
     // The payload is a row of the history.
@@ -104,7 +91,7 @@ impl Run {
             self.session.transaction,
             p,
         );
-        self.take_cache(left);
+        self.take(left);
     }
 
     // The payload is a row of the anchors, and its messages.
@@ -115,7 +102,7 @@ impl Run {
             self.session.transaction,
             p,
         );
-        self.take_cache(left);
+        self.take(left);
     }
 
     // An entry to the history alone, on the part of the area that is lent.
@@ -127,7 +114,7 @@ impl Run {
             self.session.transaction,
             p,
         );
-        self.tell_cache(b"info", left);
+        self.tell(b"info", left);
     }
 
     // A trim on the part of the area that is lent.
@@ -139,13 +126,13 @@ impl Run {
             self.session.transaction,
             ct,
         );
-        self.tell_cache(b"trim", trimmed.map(|after| after.state));
+        self.tell(b"trim", trimmed.map(|after| after.state));
     }
 
     fn put_limits(&mut self, p: &[u8]) {
         let limits = records::limits_of(p);
         let left = externals_reader::set_buffer_limits_by_partition(self.reader, limits);
-        self.take_reader(left);
+        self.take(left);
     }
 
     // The host took: seqno 4, partition 1, number 4.
@@ -156,7 +143,7 @@ impl Run {
             rows::byte_at(p, 4),
             rows::num_at(p, 5),
         );
-        self.tell_reader(b"took", left);
+        self.tell(b"took", left);
     }
 
     fn function(&mut self, p: &[u8]) {
@@ -199,14 +186,15 @@ impl Run {
     }
 
     fn read_one(&mut self, p: &[u8]) {
-        let lent = self.store.lent(self.session, self.reader);
-        let answered = read::one(&mut self.text, self.session.at, lent, p);
+        let handed = self.store.handed(self.session, self.reader);
+        let answered = read::one(&mut self.text, self.session.at, handed, p);
         self.after_read(answered);
     }
 
     fn read_all(&mut self, mode: GetNextMessageGroupMode) {
-        let lent = self.store.lent(self.session, self.reader);
-        let answered = read::all(&mut self.text, self.session.at, lent, mode);
+        let handed = self.store.handed(self.session, self.reader);
+        let number = u8::from(mode == GetNextMessageGroupMode::Refill);
+        let answered = read::all(&mut self.text, self.session.at, handed, number);
         self.after_read(answered);
     }
 }
@@ -232,16 +220,16 @@ impl Run {
     }
 
     // A record beyond those of extread.
-    fn beyond(&mut self, kind: u16, p: &[u8]) {
-        match kinds::check(self.session.records, kind, p) {
-            Ok(kind) => self.called(kind, p),
+    fn beyond(&mut self, kind: Kind, p: &[u8]) {
+        match kind.check(self.session.records, p) {
+            Ok(()) => self.called(kind, p),
             Err(refusal) => self.bad(refusal),
         }
     }
 
     fn called(&mut self, kind: Kind, p: &[u8]) {
         match kind {
-            Kind::Range => self.take_reader(given::put_range(self.reader, p)),
+            Kind::Range => self.take(given::put_range(self.reader, p)),
             Kind::Partition => self.reader = given::with_partition(self.reader, p),
             Kind::Marks => self.reader = given::with_marks(self.reader, p),
             Kind::Places => self.store.places = rows::num_at::<u32>(p, 0) as usize,
@@ -255,7 +243,7 @@ impl Run {
             Kind::Function => self.function(p),
             Kind::InfoAt => self.put_info_at(rows::num_at::<u64>(p, 0)),
             Kind::InRange => self.put_in_range(p),
-            Kind::New => self.tell_reader(b"new", renewed(self.reader)),
+            Kind::New => self.tell(b"new", externals_reader::renew(self.reader)),
             Kind::Info => self.info(p),
         }
     }
@@ -280,7 +268,6 @@ impl Run {
     }
 
     fn record(&mut self, record: &[u8]) {
-        let kind = rows::num_at::<u16>(record, 0);
         if self.plain {
             return self.step(record);
         }
@@ -288,11 +275,13 @@ impl Run {
             self.session = session_state::record_counted(self.session);
             return self.read_all(mode);
         }
-        if kind < 256 {
-            return self.step(record);
+        match Kind::try_from(rows::num_at::<u16>(record, 0)) {
+            Ok(kind) => {
+                self.session = session_state::record_counted(self.session);
+                self.beyond(kind, record.get(2..).unwrap_or_default());
+            }
+            Err(_) => self.step(record),
         }
-        self.session = session_state::record_counted(self.session);
-        self.beyond(kind, record.get(2..).unwrap_or_default());
     }
 
     // The whole state.

@@ -4,14 +4,16 @@ ghost use Rattle.cache_rules.specs.Rules.{area_bytes};
 
 use anchors_cache::TABLES_BYTES;
 use cache_rules::AREA_BYTES;
-use probe_reader::read::{Lent, MAX_PLACES, OUTPUT_BYTES};
+use probe_reader::read::{Handed, MAX_PLACES, OUTPUT_BYTES};
+use range_reader::Lent;
 use range_rules::ENTRY_LEN;
 use reader_rules::ExternalsReader;
 use session_rules::Session;
 
 const ROUTES_BYTES: usize = router::MAX_ROUTES * router::ROUTE_LEN;
 
-// `lent` bytes of the message area and `places` places of the output are lent.
+// `lent` bytes of the message area and `places` places of the output are lent: the arrays are all the memory that there
+// is, and a record says how much of it a call gets.
 #[derive(Drop)]
 pub struct Store {
     pub tables: [u8; TABLES_BYTES],
@@ -52,14 +54,16 @@ impl Store {
         self.lent.min(AREA_BYTES)
     }
 
-    // What the read of the session's last record is lent.
-    pub fn lent(&self, session: Session, reader: ExternalsReader) -> Lent<'_> {
-        Lent {
+    // What the read of the session's last record is handed.
+    pub fn handed(&self, session: Session, reader: ExternalsReader) -> Handed<'_> {
+        Handed {
             reader,
             cache: session.transaction,
-            tables: &self.tables,
-            area: &self.area[..self.area_len()],
-            routes: &self.routes[..session.routes_len.min(ROUTES_BYTES)],
+            lent: Lent {
+                tables: &self.tables,
+                area: &self.area[..self.area_len()],
+                routes: &self.routes[..session.routes_len.min(ROUTES_BYTES)],
+            },
             output: self.output_bytes(session.records),
         }
     }

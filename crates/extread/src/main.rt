@@ -4,24 +4,38 @@
 
 ghost use Rattle.std.specs.Prelude.{◌+◌, ◌≤◌};
 
+use anchors_cache::TABLES_BYTES;
+use cache_rules::{AREA_BYTES, MAX_MESSAGES};
+use range_rules::ENTRY_LEN;
 use reader_rules::ExternalsReader;
-use records::Next;
+use records::{HEAD_BYTES, LENGTH_BYTES, Next};
+use router::{MAX_ROUTES, ROUTE_LEN};
 use session_rules::Session;
+
+const ROUTES_BYTES: usize = MAX_ROUTES * ROUTE_LEN;
+
+// No read puts more messages than a cache has.
+const OUTPUT_BYTES: usize = MAX_MESSAGES * ENTRY_LEN;
+
+const TEXT_BYTES: usize = 131_072;
 
 // No record's text is longer than 113,761 bytes; with more text than this there might be no room for one more.
 const MOST: usize = 16_384;
 
-// A session on its way, with all that it is lent, and the input that is at hand: the window's bytes from `from` to `end`.
+const INPUT_BYTES: usize = 65_536;
+
+// A session on its way, with all that it is lent, and the input at hand: the window's bytes from `from` to `end`.
+// No plainer as a struct of its own: only a `Run` holds the window, and each place would be named through one field more.
 #[derive(Drop)]
 struct Run {
     session: Session,
     reader: ExternalsReader,
-    tables: [u8; 14_912],
-    area: [u8; 33_792],
-    routes: [u8; 8_704],
-    entries: [u8; 26_624],
-    text: [u8; 131_072],
-    window: [u8; 65_536],
+    tables: [u8; TABLES_BYTES],
+    area: [u8; AREA_BYTES],
+    routes: [u8; ROUTES_BYTES],
+    entries: [u8; OUTPUT_BYTES],
+    text: [u8; TEXT_BYTES],
+    window: [u8; INPUT_BYTES],
     from: usize,
     end: usize,
 }
@@ -31,12 +45,12 @@ impl Run {
         Run {
             session: session_state::new(),
             reader: session::no_reader(),
-            tables: [0; 14_912],
-            area: [0; 33_792],
-            routes: [0; 8_704],
-            entries: [0; 26_624],
-            text: [0; 131_072],
-            window: [0; 65_536],
+            tables: [0; TABLES_BYTES],
+            area: [0; AREA_BYTES],
+            routes: [0; ROUTES_BYTES],
+            entries: [0; OUTPUT_BYTES],
+            text: [0; TEXT_BYTES],
+            window: [0; INPUT_BYTES],
             from: 0,
             end: 0,
         }
@@ -93,13 +107,13 @@ impl Run {
         self.flush(rt, MOST);
     }
 
-    // A record of n bytes that is too long, by its first 52; one that the input ends in is malformed.
+    // A record of n bytes that is too long, by its head; one that the input ends in is malformed.
     fn long(&mut self, rt: &HostRuntime, n: usize)
         requires { self.old.from + 56 ≤ self.old.end }
     {
-        let start = self.from + 4;
+        let start = self.from + LENGTH_BYTES;
         let behind = n.saturating_sub(self.end - start);
-        match self.window.get(start..start + 52) {
+        match self.window.get(start..start + HEAD_BYTES) {
             Some(head) if has_more(rt, behind) => {
                 self.session = session_state::long_record(
                     &self.tables,
@@ -114,6 +128,7 @@ impl Run {
         }
     }
 
+    #[tactic(auto, using(crate::proofs::Laws::whole_ends, crate::proofs::Laws::long_ends))]
     fn turn(&mut self, rt: &HostRuntime) {
         match records::next_record(&self.window, self.from, self.end) {
             Next::Whole(start, n) => self.step(rt, start, start + n),
@@ -124,8 +139,9 @@ impl Run {
 }
 
 // Whether so many bytes more stand in the input. The program stops behind them, so more may be read.
+// A `while`, for it counts bytes that arrive, which no iterator yields.
 fn has_more(rt: &HostRuntime, n: usize) -> bool {
-    let mut buffer = [0; 65_536];
+    let mut buffer = [0; INPUT_BYTES];
     let mut left = n;
     while 0 < left {
         match streams::read(&mut rt.stdin(), &mut buffer) {
@@ -138,6 +154,7 @@ fn has_more(rt: &HostRuntime, n: usize) -> bool {
 
 fn main(rt: HostRuntime) {
     let mut run = Run::new();
+    // turns are counted, for a proved loop has to end
     for _ in 0..u64::MAX {
         run.turn(&rt);
         if run.session.stopped {

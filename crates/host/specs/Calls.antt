@@ -125,11 +125,17 @@ pub record RangeRead : Type 0 where
   pub answer : RangeAnswer
   pub state : RangeAndCache
 
+abbrev pub all_answer : ReadAllAnswer → AllAnswer
+all_answer a = record { number = a.number; free = free_of a.free; used = a.used; counts = a.counts }
+
+abbrev pub range_answer : ReadAnswer → RangeAnswer
+range_answer a = record { number = a.number; free = a.free; last_chain_time = saved_time no_time a.last_chain_time; pops = a.pops; used = a.used; counts = a.counts }
+
 -- a read of all ranges: what it answers and leaves, and the output
 abbrev pub read_all_shown : Reader → ReadAllAnswer → AllRead
 read_all_shown was a =
     record {
-      answer = record { number = a.number; free = free_of a.free; used = a.used; counts = a.counts };
+      answer = all_answer a;
       state = record { transaction = a.state; reader = left_reader was a.number a.reader };
     }
 
@@ -140,7 +146,7 @@ read_all out tables area routes refill e = read_all_call tables area e.transacti
 abbrev pub read_range_shown : ReadAnswer → RangeRead
 read_range_shown a =
     record {
-      answer = record { number = a.number; free = a.free; last_chain_time = saved_time no_time a.last_chain_time; pops = a.pops; used = a.used; counts = a.counts };
+      answer = range_answer a;
       state = record { transaction = a.state; range = a.range };
     }
 

@@ -12,6 +12,8 @@ use Rattle.reader_rules.specs.declared.GetNextMessageGroupMode.{GetNextMessageGr
 use Rattle.reader_rules.specs.declared.GetNextMessageGroupMode.TheVariants.{Continue, Refill}
 use Rattle.reader_rules.specs.declared.ExternalsReader.{ExternalsReader}
 use Rattle.reader_rules.specs.declared.ExternalsReaderState.{ExternalsReaderState}
+use Rattle.range_reader.specs.declared.RangeSettings.{RangeSettings as CoreSettings}
+use Rattle.host.specs.declared.RangeSettings.{RangeSettings}
 use Rattle.host.specs.declared.SavedTime.{SavedTime}
 use Rattle.host.specs.declared.Free.{Free}
 use Rattle.host.specs.declared.ReaderState.{ReaderState}
@@ -27,6 +29,10 @@ group_mode false = Continue
 abbrev pub range_mode : Bool → ReadNextExternalsMode
 range_mode true = ToPreviuosReadTo
 range_mode false = ToTheEnd
+
+-- ---- what a read of one range is told
+abbrev pub settings_of : RangeSettings → CoreSettings
+settings_of s = record { shard = s.shard; limits = s.limits; processed = s.processed; timeout = s.timeout; mode = range_mode s.to_previous }
 
 -- ---- a chain time that may be missing
 abbrev pub no_time : ChainTime

@@ -1,6 +1,8 @@
 // The calls for a host in C or Rust, each under its plain name: what a call changes it is lent by reference, what it
 // only looks at it takes by value.
 // A refused call answers the number and leaves every state and lent byte as at entry.
+// Structs with a number or a mark, calls that answer a byte, flags for modes, arrays with a `len`, structs beside the
+// core's own: the C interface.
 #![tactic(auto)]
 
 ghost use Rattle.std.specs.Prelude.{◌≡◌, length};
@@ -19,7 +21,8 @@ ghost use Rattle.host.specs.Calls.{pop_shown, trim_shown, add_shown, entry_shown
 use anchors_cache::{AnchorInfo, AnchorsCacheTransaction, CachedAnchor, MempoolAnchor};
 use cache_rules::AUTHOR_BYTES;
 use ext_types::{ChainTime, ExternalKey, Seconds};
-use range_rules::{ExternalsRangeReaderState, NO_COUNTS, ProcessedTo, ReadCounts};
+use range_reader::Lent;
+use range_rules::{ExternalsRangeReaderState, ProcessedTo, ReadCounts};
 use reader_rules::{
     ExternalsPartitionReaderState, ExternalsReader, MAX_RANGES, MsgsExecutionParams,
 };
@@ -197,29 +200,21 @@ pub struct ByPartitions {
 fn stored(done: Result<AnchorsCacheTransaction, Refusal>, t: &mut AnchorsCacheTransaction) -> u8
     ensures { (result ≡ (done_of t.old done).number) × (t.new ≡ (done_of t.old done).state) }
 {
-    match done {
-        Ok(state) => {
-            *t = state;
-            0
-        }
-        Err(refusal) => refusal.into(),
-    }
+    *t = done.unwrap_or(*t);
+    refusals::number(done)
 }
 
 // The same of a call on the reader. Which reader the call was handed counts nowhere: a refused one leaves the host's.
-#[tactic(auto, using(reader_offsets::proofs::Numbers::on_refusal, refusals::proofs::Laws::refused_is_not_done), unfolding(crate::specs::Calls::reader_shown, crate::specs::Shapes::left_reader))]
+#[tactic(auto, using(anchors_cache::proofs::Refused::on_refusal, refusals::proofs::Laws::refused_is_not_done), unfolding(crate::specs::Calls::reader_shown, crate::specs::Shapes::left_reader))]
 fn held(done: Result<ExternalsReader, Refusal>, reader: &mut Reader) -> u8
     ensures { (handed : CoreReader)
         → (result ≡ (reader_shown reader.old (reader_done_of handed done)).number)
         × (reader.new ≡ (reader_shown reader.old (reader_done_of handed done)).reader) }
 {
-    match done {
-        Ok(next) => {
-            reader.hold(next);
-            0
-        }
-        Err(refusal) => refusal.into(),
+    if let Ok(next) = done {
+        reader.hold(next);
     }
+    refusals::number(done)
 }
 
 // A call on the host's reader in the core's shape.
@@ -639,7 +634,7 @@ pub extern "C" fn ext_create_next_externals_range_state(reader: Reader) -> NextR
 
 // ---- the reads
 // `refill` is the Rust's mode: Refill, else Continue. The entries take the first `used` bytes of `out`.
-#[tactic(auto, using(reader_offsets::proofs::Numbers::on_refusal, refusals::proofs::Laws::refused_is_not_done), unfolding(crate::specs::Calls::read_all, crate::specs::Shapes::left_reader))]
+#[tactic(auto, using(anchors_cache::proofs::Refused::on_refusal, refusals::proofs::Laws::refused_is_not_done), unfolding(crate::specs::Calls::read_all, crate::specs::Shapes::left_reader))]
 #[unsafe(no_mangle)]
 pub extern "C" fn ext_read_into_buffers(
     e: &mut Externals,
@@ -655,32 +650,17 @@ pub extern "C" fn ext_read_into_buffers(
 {
     let mode = shapes::group_mode(refill);
     let reader = e.reader.into();
-    match externals_reader::read_into_buffers(
+    let lent = Lent {
         tables,
         area,
-        e.transaction,
         routes,
-        reader,
-        mode,
-        out,
-    ) {
-        Ok(a) => {
-            e.transaction = a.state;
-            e.reader.hold(a.reader);
-            AllAnswer {
-                number: 0,
-                free: a.free.into(),
-                used: a.used,
-                counts: a.counts,
-            }
-        }
-        Err(refusal) => AllAnswer {
-            number: refusal.into(),
-            free: None.into(),
-            used: 0,
-            counts: NO_COUNTS,
-        },
+    };
+    let done = externals_reader::read_into_buffers(lent, e.transaction, reader, mode, out);
+    if let Ok(a) = done {
+        e.transaction = a.state;
+        e.reader.hold(a.reader);
     }
+    done.into()
 }
 
 #[tactic(auto, unfolding(crate::specs::Calls::read_range))]
@@ -697,45 +677,18 @@ pub extern "C" fn ext_read_externals_into_buffers(
         × (e.new ≡ (read_range_shown (read_range out.old tables.now area.now routes.now settings e.old).answer).state)
         × (out.new ≡ (read_range out.old tables.now area.now routes.now settings e.old).out) }
 {
-    let limits = settings.limits;
-    let processed = settings.processed;
-    let asked = range_reader::RangeSettings {
-        shard: settings.shard,
-        limits,
-        processed,
-        timeout: settings.timeout,
-        mode: shapes::range_mode(settings.to_previous),
-    };
-    match range_reader::read_externals_into_buffers(
+    let asked = settings.into();
+    let lent = Lent {
         tables,
         area,
-        e.transaction,
         routes,
-        asked,
-        e.range,
-        out,
-    ) {
-        Ok(a) => {
-            e.transaction = a.state;
-            e.range = a.range;
-            RangeAnswer {
-                number: 0,
-                free: a.free,
-                last_chain_time: shapes::saved_time(ChainTime(0), a.last_chain_time),
-                pops: a.pops,
-                used: a.used,
-                counts: a.counts,
-            }
-        }
-        Err(refusal) => RangeAnswer {
-            number: refusal.into(),
-            free: 0,
-            last_chain_time: shapes::saved_time(ChainTime(0), None),
-            pops: 0,
-            used: 0,
-            counts: NO_COUNTS,
-        },
+    };
+    let done = range_reader::read_externals_into_buffers(lent, e.transaction, asked, e.range, out);
+    if let Ok(a) = done {
+        e.transaction = a.state;
+        e.range = a.range;
     }
+    done.into()
 }
 
 // The free places of a range as it stands, for instance after the host has taken messages.

@@ -1,23 +1,29 @@
 // What a host holds, against what the calls take and answer: an enum is a mark and what it marks.
+// Structs with a number or a mark, and structs beside the core's own: the C interface.
 // An array that goes from one struct into another is named between: the borrow checker of the proofs asks for it.
 ghost use Rattle.std.specs.Prelude.{◌≡◌};
 ghost use Rattle.router.specs.Router.{answer_of};
 ghost use Rattle.messages_buffer.specs.Fullness.{answer_of as fullness};
 ghost use Rattle.anchors_cache.specs.Answers.{anchor_answer_of, info_answer_of, flag_answer_of};
-ghost use Rattle.externals_reader.specs.Answers.{partition_ids_of, next_range_of};
+ghost use Rattle.anchors_cache.specs.declared.AnchorsCacheTransaction.{AnchorsCacheTransaction};
+ghost use Rattle.range_rules.specs.declared.ExternalsRangeReaderState.{ExternalsRangeReaderState as Range};
+ghost use Rattle.range_reader.specs.Calls.{read_answer_of};
+ghost use Rattle.reader_rules.specs.declared.ExternalsReader.{ExternalsReader as CoreReader};
+ghost use Rattle.externals_reader.specs.Answers.{partition_ids_of, next_range_of, read_all_answer_of};
 ghost use Rattle.reader_offsets.specs.Answers.{value_of, is_there, by_partitions_of};
-ghost use Rattle.host.specs.Shapes.{group_mode, range_mode, last_time, saved_time, free_of, state_of, reader_of, held_state, held_reader, anchor_answer, info_answer};
-ghost use Rattle.host.specs.Calls.{flag_shown, partition_shown, fill_shown, partition_ids_shown, next_range_shown, by_partitions_shown};
+ghost use Rattle.host.specs.Shapes.{group_mode, range_mode, settings_of, last_time, saved_time, free_of, state_of, reader_of, held_state, held_reader, anchor_answer, info_answer};
+ghost use Rattle.host.specs.Calls.{flag_shown, partition_shown, fill_shown, partition_ids_shown, next_range_shown, by_partitions_shown, all_answer, range_answer};
 
 use crate::{
-    AnchorShown, ByPartitions, FillState, FlagAnswer, Free, InfoShown, NextRange, PartitionIds,
-    PartitionShown, Reader, ReaderState, SavedTime,
+    AllAnswer, AnchorShown, ByPartitions, FillState, FlagAnswer, Free, InfoShown, NextRange,
+    PartitionIds, PartitionShown, RangeAnswer, RangeSettings, Reader, ReaderState, SavedTime,
 };
-use anchors_cache::{AnchorInfo, Authored, CachedAnchor};
+use anchors_cache::{AnchorInfo, Authored, CachedAnchor, ZERO_ANCHOR, ZERO_INFO};
 use cache_rules::AUTHOR_BYTES;
-use ext_types::{ChainTime, NO_KEY};
-use messages_buffer::NO_PARTITION;
-use range_rules::{ExternalsRangeReaderState, ReadNextExternalsMode};
+use ext_types::ChainTime;
+use externals_reader::ReadIntoBuffers;
+use range_reader::ReadExternals;
+use range_rules::{ExternalsRangeReaderState, NO_COUNTS, NO_RANGE, ReadNextExternalsMode};
 use reader_rules::{ExternalsReader, ExternalsReaderState, GetNextMessageGroupMode};
 use refusals::Refusal;
 
@@ -25,36 +31,15 @@ use refusals::Refusal;
 const NO_ANCHOR: AnchorShown = AnchorShown {
     number: 0,
     found: false,
-    anchor: CachedAnchor {
-        id: 0,
-        chain_time: ChainTime(0),
-        ours: 0,
-        count: 0,
-        place: 0,
-    },
+    anchor: ZERO_ANCHOR,
     author: [0; AUTHOR_BYTES],
 };
 
 const NO_INFO: InfoShown = InfoShown {
     number: 0,
     found: false,
-    info: AnchorInfo {
-        id: 0,
-        ct: ChainTime(0),
-        all_exts_count: 0,
-        our_exts_count: 0,
-    },
+    info: ZERO_INFO,
     author: [0; AUTHOR_BYTES],
-};
-
-const NO_RANGE: ExternalsRangeReaderState = ExternalsRangeReaderState {
-    seqno: 0,
-    from: NO_KEY,
-    to: NO_KEY,
-    current_position: NO_KEY,
-    chain_time: ChainTime(0),
-    fully_read: false,
-    by_partitions: [NO_PARTITION; 8],
 };
 
 // ---- modes
@@ -68,13 +53,35 @@ pub(crate) fn group_mode(refill: bool) -> GetNextMessageGroupMode
     }
 }
 
-pub(crate) fn range_mode(to_previous: bool) -> ReadNextExternalsMode
+fn range_mode(to_previous: bool) -> ReadNextExternalsMode
     ensures { result ≡ range_mode to_previous }
 {
     if to_previous {
         ReadNextExternalsMode::ToPreviuosReadTo
     } else {
         ReadNextExternalsMode::ToTheEnd
+    }
+}
+
+// What the core is told of a read of one range.
+impl From<RangeSettings> for range_reader::RangeSettings {
+    ghost from_gives = { λ s r. r ≡ settings_of s };
+
+    fn from(s: RangeSettings) -> range_reader::RangeSettings {
+        let RangeSettings {
+            shard,
+            limits,
+            processed,
+            timeout,
+            to_previous,
+        } = s;
+        range_reader::RangeSettings {
+            shard,
+            limits,
+            processed,
+            timeout,
+            mode: range_mode(to_previous),
+        }
     }
 }
 
@@ -88,7 +95,7 @@ impl From<SavedTime> for Option<ChainTime> {
 }
 
 // Where there is none, the time beside the mark is `unset`.
-pub(crate) fn saved_time(unset: ChainTime, last: Option<ChainTime>) -> SavedTime
+fn saved_time(unset: ChainTime, last: Option<ChainTime>) -> SavedTime
     ensures { result ≡ saved_time unset last }
 {
     SavedTime {
@@ -230,12 +237,9 @@ impl From<Result<bool, Refusal>> for FlagAnswer {
     ghost from_gives = { λ r a. a ≡ flag_shown (flag_answer_of r) };
 
     fn from(answer: Result<bool, Refusal>) -> FlagAnswer {
-        match answer {
-            Ok(flag) => FlagAnswer { number: 0, flag },
-            Err(refusal) => FlagAnswer {
-                number: refusal.into(),
-                flag: false,
-            },
+        FlagAnswer {
+            number: refusals::number(answer),
+            flag: answer.unwrap_or(false),
         }
     }
 }
@@ -244,15 +248,9 @@ impl From<Result<u8, Refusal>> for PartitionShown {
     ghost from_gives = { λ r a. a ≡ partition_shown (answer_of r) };
 
     fn from(answer: Result<u8, Refusal>) -> PartitionShown {
-        match answer {
-            Ok(partition) => PartitionShown {
-                number: 0,
-                partition,
-            },
-            Err(refusal) => PartitionShown {
-                number: refusal.into(),
-                partition: 0,
-            },
+        PartitionShown {
+            number: refusals::number(answer),
+            partition: answer.unwrap_or(0),
         }
     }
 }
@@ -261,12 +259,9 @@ impl From<Result<u16, Refusal>> for FillState {
     ghost from_gives = { λ r a. a ≡ fill_shown (fullness r) };
 
     fn from(answer: Result<u16, Refusal>) -> FillState {
-        match answer {
-            Ok(free) => FillState { number: 0, free },
-            Err(refusal) => FillState {
-                number: refusal.into(),
-                free: 0,
-            },
+        FillState {
+            number: refusals::number(answer),
+            free: answer.unwrap_or(0),
         }
     }
 }
@@ -275,12 +270,9 @@ impl From<Result<[bool; 8], Refusal>> for PartitionIds {
     ghost from_gives = { λ r a. a ≡ partition_ids_shown (partition_ids_of r) };
 
     fn from(answer: Result<[bool; 8], Refusal>) -> PartitionIds {
-        match answer {
-            Ok(present) => PartitionIds { number: 0, present },
-            Err(refusal) => PartitionIds {
-                number: refusal.into(),
-                present: [false; 8],
-            },
+        PartitionIds {
+            number: refusals::number(answer),
+            present: answer.unwrap_or([false; 8]),
         }
     }
 }
@@ -289,16 +281,14 @@ impl From<Result<ExternalsRangeReaderState, Refusal>> for NextRange {
     ghost from_gives = { λ r a. a ≡ next_range_shown (next_range_of r) };
 
     fn from(answer: Result<ExternalsRangeReaderState, Refusal>) -> NextRange {
-        match answer {
-            Ok(range) => NextRange { number: 0, range },
-            Err(refusal) => NextRange {
-                number: refusal.into(),
-                range: NO_RANGE,
-            },
+        NextRange {
+            number: refusals::number(answer),
+            range: answer.unwrap_or(NO_RANGE),
         }
     }
 }
 
+// Functions with a name; tried: closures in `map`, the proof that both arrays are the rule's didn't close.
 fn value_of(value: Option<u32>) -> u32
     ensures { result ≡ value_of value }
 {
@@ -325,6 +315,53 @@ impl From<Result<[Option<u32>; 8], Refusal>> for ByPartitions {
                 number: refusal.into(),
                 values: [0; 8],
                 present: [false; 8],
+            },
+        }
+    }
+}
+
+// ---- the reads' answers
+impl From<Result<ReadIntoBuffers, Refusal>> for AllAnswer {
+    ghost from_gives = { λ r a. (handed : CoreReader) (t : AnchorsCacheTransaction) → a ≡ all_answer (read_all_answer_of handed t r) };
+
+    fn from(answer: Result<ReadIntoBuffers, Refusal>) -> AllAnswer {
+        match answer {
+            Ok(a) => AllAnswer {
+                number: 0,
+                free: a.free.into(),
+                used: a.used,
+                counts: a.counts,
+            },
+            Err(refusal) => AllAnswer {
+                number: refusal.into(),
+                free: None.into(),
+                used: 0,
+                counts: NO_COUNTS,
+            },
+        }
+    }
+}
+
+impl From<Result<ReadExternals, Refusal>> for RangeAnswer {
+    ghost from_gives = { λ r a. (handed : Range) (t : AnchorsCacheTransaction) → a ≡ range_answer (read_answer_of handed t r) };
+
+    fn from(answer: Result<ReadExternals, Refusal>) -> RangeAnswer {
+        match answer {
+            Ok(a) => RangeAnswer {
+                number: 0,
+                free: a.free,
+                last_chain_time: saved_time(ChainTime(0), a.last_chain_time),
+                pops: a.pops,
+                used: a.used,
+                counts: a.counts,
+            },
+            Err(refusal) => RangeAnswer {
+                number: refusal.into(),
+                free: 0,
+                last_chain_time: saved_time(ChainTime(0), None),
+                pops: 0,
+                used: 0,
+                counts: NO_COUNTS,
             },
         }
     }

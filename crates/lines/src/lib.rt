@@ -1,4 +1,6 @@
 // The lines of a session: what each line tells, by `text`, from a place of the lent bytes on.
+// The bytes and the place stand side by side, as in `text`: a struct that holds &mut needs a ghost_name clause in each
+// function.
 #![tactic(auto)]
 
 ghost use Rattle.std.specs.Prelude.{◌≡◌, take};
@@ -22,7 +24,7 @@ const BAD: [u8; 3] = *b"bad";
 const END: [u8; 3] = *b"end";
 
 // The free places that the last range read reported; no line where none was read.
-#[tactic(auto, unfolding(crate::specs::Lines::free_line))]
+#[tactic(auto, using(crate::proofs::Laws::free_none), unfolding(crate::specs::Lines::free_line))]
 pub fn put_free(out: &mut [u8], at: usize, free: Option<u16>) -> usize
     ensures { record { at = result; bytes = out.new } ≡ show (free_line free) (record { at = at; bytes = out.old }) }
 {
@@ -48,6 +50,7 @@ fn put_entry(out: &mut [u8], at: usize, entry: &[u8]) -> usize
 }
 
 // A line for each whole entry.
+#[tactic(auto, using(crate::proofs::Laws::entries_turn, crate::proofs::Laws::entries_end))]
 pub fn put_entries(out: &mut [u8], at: usize, entries: &[u8]) -> usize
     ensures { record { at = result; bytes = out.new } ≡ show (entry_lines (whole_rows entry_len entries.now)) (record { at = at; bytes = out.old }) }
 {
@@ -75,6 +78,7 @@ fn put_range(out: &mut [u8], at: usize, range: &ExternalsRangeReaderState) -> us
 }
 
 // A line for each range.
+#[tactic(auto, using(crate::proofs::Laws::ranges_turn, crate::proofs::Laws::ranges_end))]
 pub fn put_ranges(out: &mut [u8], at: usize, state: ExternalsReaderState) -> usize
     ensures { record { at = result; bytes = out.new } ≡ show (range_lines (take state.len state.ranges)) (record { at = at; bytes = out.old }) }
 {
@@ -85,12 +89,12 @@ pub fn put_ranges(out: &mut [u8], at: usize, state: ExternalsReaderState) -> usi
     to
 }
 
-// The record's number, and that of its refusal.
+// The record's number, and that of its refusal. A number: here a refusal becomes text.
 #[tactic(auto, unfolding(crate::specs::Lines::bad_line))]
-pub fn put_bad(out: &mut [u8], at: usize, record: u64, number: u8) -> usize
-    ensures { record { at = result; bytes = out.new } ≡ show (bad_line «record» number) (record { at = at; bytes = out.old }) }
+pub fn put_bad(out: &mut [u8], at: usize, records: u64, number: u8) -> usize
+    ensures { record { at = result; bytes = out.new } ≡ show (bad_line records number) (record { at = at; bytes = out.old }) }
 {
-    text::put_line(out, at, &BAD, &[record, u64::from(number)])
+    text::put_line(out, at, &BAD, &[records, u64::from(number)])
 }
 
 // Cached anchors, history entries, pending.

@@ -1,4 +1,5 @@
 -- Laws of free places: the smallest over a range's partitions, full buffers, and one message more in a buffer.
+use Rattle.messages_buffer.proofs.Laws.{buffers_length}
 use Prim.Native.Nat.{ℕ, min, suc, zero, ◌+◌, ◌-◌, ◌≤◌, ◌<◌}
 use mathlib.Core.Path.{◌≡◌, refl, sym, ap, ◌∙◌}
 use mathlib.Core.Bool.{Bool, true, false, not, ◌&&◌, ◌||◌}
@@ -6,7 +7,7 @@ use mathlib.Core.List.{List, [], ◌∷◌}
 use mathlib.Core.Logic.{◌⊎◌, inl, inr}
 use native.Mathlib.Omega.{arith}
 use lib.Dec.{eqb, leb, ltb}
-use lib.ListN.{length, get_or, set}
+use lib.ListN.{length, get_or, set, drop, drop_of_length-le}
 use Rattle.std.specs.List.{fold, zip}
 use borrow.Author.Tests.{ne_eqb, eq-eqb, eqb-true, eqb-false, leb-true, leb-false, ltb-true, ltb-false}
 use Rattle.rows.specs.Rows.{pick}
@@ -121,6 +122,13 @@ folded (l ∷ ls) (p ∷ ps) n h =
 pub free_of_all : (ls : List ℕ) (ps : List ExternalsPartitionRangeReaderState) → fold (λ m q. with_free q.0 q.1 m) buffer_cap (zip ls ps) ≡ range_free ls ps
 unfolding range_free
 free_of_all ls ps = folded ls ps buffer_cap (omega arith) ∙ least_of_more buffer_cap (smallest (buffers ls ps)) (smallest_within (buffers ls ps))
+
+-- behind the last buffer no place is lost
+pub free_end : (ls : List ℕ) (ps : List ExternalsPartitionRangeReaderState) → length ls ≡ length ps → (i n : ℕ) → length ls ≤ i → n ≤ buffer_cap → least n (smallest (drop i (buffers ls ps))) ≡ n
+unfolding smallest
+free_end ls ps same i n h g =
+    let k : length (buffers ls ps) ≤ i = rw (buffers_length ls ps same) h in
+    rw (drop_of_length-le (buffers ls ps) k) (least_turn n buffer_cap ∙ least_of_more buffer_cap n g)
 
 -- ---- document 01: "A buffer is full at count at least its limit. Any full buffer of a range stops that range."
 pub full_at_count_at_least_its_limit : (count limit : ℕ) → is_full count limit ≡ leb limit count

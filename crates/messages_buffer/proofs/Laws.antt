@@ -1,4 +1,5 @@
 -- Laws of tables by index, of the questions about them, and of what a changed record keeps.
+use Rattle.std.proofs.lemmas.Bool.{and_parts, or_right}
 use Prim.Native.Nat.{ℕ, suc, zero, ◌≤◌, ◌<◌}
 use mathlib.Core.Path.{◌≡◌, refl, sym, ap, ◌∙◌}
 use mathlib.Core.Bool.{Bool, true, false, not, ◌&&◌, ◌||◌}
@@ -6,10 +7,24 @@ use mathlib.Core.List.{List, [], ◌∷◌}
 use native.Mathlib.Omega.{arith}
 use lib.Dec.{eqb, leb}
 use lib.ListN.{length, get_or, set}
-use Rattle.std.specs.List.{list_all, zip}
-use borrow.Author.Tests.{ne_eqb, not-true, leb-true, le-leb}
+use denote.Ref.{Bor}
+use denote.Param.Members.{Mut}
+use Rattle.std.specs.List.{list_all, zip, FoldsTo}
+use Rattle.std.specs.Option.{MatchOption}
+use Rattle.std.specs.Prelude.{Option}
+use Rattle.std.specs.Fn.{Called}
+use Rattle.std.specs.Iterator.{YieldsThen}
+use Rattle.std.proofs.lemmas.Fn.{fronts}
+use Rattle.std.specs.Slice.Iter.{iter_rest}
+use Rattle.std.specs.declared.slice.Iter.{Iter}
+use Rattle.std.proofs.lemmas.Iterator.{YieldsList-from_slice}
+use Rattle.std.proofs.lemmas.Iterator.Search.{all_from_yields_List}
+use Rattle.refusals.specs.declared.Refusal.{Refusal}
+use Rattle.refusals.specs.Refusals.{number_of}
+use Rattle.refusals.proofs.Laws.{refused_is_not_done}
+use borrow.Author.Tests.{not-true, leb-true, le-leb}
 use Rattle.rows.specs.Rows.{pick}
-use Rattle.rows.proofs.Laws.{and_true, pick_yes, pick_no, yes_later, or_later}
+use Rattle.rows.proofs.Laws.{pick_yes, pick_no, yes_later}
 use Rattle.messages_buffer.specs.declared.ExternalsPartitionRangeReaderState.{ExternalsPartitionRangeReaderState}
 use Rattle.messages_buffer.specs.Fullness.{buffer_cap, no_limit, no_partition, no_buffer, limit_fits, count_fits, has_limit, every, Buffer, buffers, limited, range_free, limits_number, partitions_number, limited_number, first_no, fill_number, fill_state, all_limited}
 
@@ -19,18 +34,31 @@ unfolding every
 all_is_every f [] = refl
 all_is_every f (x ∷ l) = ap (λ (b : Bool). f x && b) (all_is_every f l)
 
+-- the number of a question that asks the test of each, by what the library says of the walk over a lent table
+module _ {A F : Type 0} {g : Mut F (Bor A × Unit {0}) Bool} {s u : Iter A} {h : F} (f : A → Bool) (l : List A) (n : ℕ) (b : Bool)
+    (ran : (xs : List (Bor A)) × (o : Option (Bor A)) × (j : F) × YieldsThen fronts s xs o u × FoldsTo (λ p x q. Called g p (x, tt) true q) h xs j × MatchOption o (b ≡ true) (λ x. (b ≡ false) × ((k : F) × Called g j (x, tt) false k)))
+    (lent : iter_rest s ≡ l) (tested : (x : Bor A) (t : Bool) (q : F) → Called g h (x, tt) t q → (q ≡ h) × (t ≡ f x.now)) where
+  is_every : b ≡ every f l
+  is_every = all_from_yields_List f u h b ran (YieldsList-from_slice l lent) tested ∙ all_is_every f l
+
+  pub passed : b ≡ true → 0 ≡ pick (every f l) 0 n
+  passed e = sym (pick_yes _ _ _ (sym is_every ∙ e))
+
+  pub failed : b ≡ false → n ≡ pick (every f l) 0 n
+  failed e = sym (pick_no _ _ _ (sym is_every ∙ e))
+
 every_each : {A : Type 0} (f : A → Bool) (d : A) (l : List A) → every f l ≡ true → (i : ℕ) → i < length l → f (get_or l i d) ≡ true
 unfolding every
 every_each f d [] e i h = absurd (omega arith)
-every_each f d (x ∷ l) e zero h = (and_true (f x) (every f l) e).0
-every_each f d (x ∷ l) e (suc i) h = every_each f d l (and_true (f x) (every f l) e).1 i (omega arith)
+every_each f d (x ∷ l) e zero h = (and_parts (f x) (every f l) e).0
+every_each f d (x ∷ l) e (suc i) h = every_each f d l (and_parts (f x) (every f l) e).1 i (omega arith)
 
 -- where every element passed, the one that is put in decides
 every_set : {A : Type 0} (f : A → Bool) (l : List A) (i : ℕ) (x : A) → every f l ≡ true → i < length l → every f (set l i x) ≡ f x
 unfolding every
 every_set f [] i x e h = absurd (omega arith)
-every_set f (y ∷ l) zero x e h = rw (and_true (f y) (every f l) e).1 (sym (yes_later (f x) true refl))
-every_set f (y ∷ l) (suc i) x e h = rw (and_true (f y) (every f l) e).0 (every_set f l i x (and_true (f y) (every f l) e).1 (omega arith))
+every_set f (y ∷ l) zero x e h = rw (and_parts (f y) (every f l) e).1 (sym (yes_later (f x) true refl))
+every_set f (y ∷ l) (suc i) x e h = rw (and_parts (f y) (every f l) e).0 (every_set f l i x (and_parts (f y) (every f l) e).1 (omega arith))
 
 -- ---- limits beside records
 pub buffers_at : (ls : List ℕ) (ps : List ExternalsPartitionRangeReaderState) (i : ℕ) (d : Buffer) → i < length ls → i < length ps → get_or (buffers ls ps) i d ≡ record { limit = get_or ls i 0; partition = get_or ps i no_partition }
@@ -98,26 +126,23 @@ first_alone zero = refl
 first_alone (suc n) = refl
 
 module _ (ls : List ℕ) (ps : List ExternalsPartitionRangeReaderState) where
-  refused : (n : ℕ) → fill_number ls ps ≡ n → (n ≡ 0 → ⊥) → record { number = n; free = 0 } ≡ fill_state ls ps
-  unfolding fill_state
-  refused n e h = rw (e, ne_eqb n 0 h)
-
-  pub refused_by_limits : (n : ℕ) → n ≡ limits_number ls → (n ≡ 0 → ⊥) → record { number = n; free = 0 } ≡ fill_state ls ps
+  pub fill_number_4 : (r : Refusal) → number_of r ≡ limits_number ls → number_of r ≡ fill_number ls ps
   unfolding fill_number
-  refused_by_limits n e h = refused n (rw (sym e) (first_no_lem n _ h)) h
+  fill_number_4 r e = rw (sym e) (sym (first_no_lem (number_of r) _ (refused_is_not_done r)))
 
-  module _ (limits_fit : limits_number ls ≡ 0) where
-    pub refused_by_counts : (n : ℕ) → n ≡ partitions_number ps → (n ≡ 0 → ⊥) → record { number = n; free = 0 } ≡ fill_state ls ps
+  module _ (limits_fit : 0 ≡ limits_number ls) where
+    pub fill_number_5 : (r : Refusal) → number_of r ≡ partitions_number ps → number_of r ≡ fill_number ls ps
     unfolding fill_number
-    refused_by_counts n e h = refused n (first_yes _ _ limits_fit ∙ rw (sym e) (first_no_lem n _ h)) h
+    fill_number_5 r e = sym (first_yes _ _ (sym limits_fit) ∙ rw (sym e) (first_no_lem (number_of r) _ (refused_is_not_done r)))
 
-    module _ (counts_fit : partitions_number ps ≡ 0) where
+    module _ (counts_fit : 0 ≡ partitions_number ps) where
       last_question : fill_number ls ps ≡ pick (all_limited ls ps) 0 10
       unfolding fill_number limited_number
-      last_question = first_yes _ _ limits_fit ∙ (first_yes _ _ counts_fit ∙ first_alone (pick (all_limited ls ps) 0 10))
+      last_question = first_yes _ _ (sym limits_fit) ∙ (first_yes _ _ (sym counts_fit) ∙ first_alone (pick (all_limited ls ps) 0 10))
 
       pub refused_without_limit : all_limited ls ps ≡ false → record { number = 10; free = 0 } ≡ fill_state ls ps
-      refused_without_limit e = refused 10 (last_question ∙ pick_no (all_limited ls ps) 0 10 e) (λ q. omega arith)
+      unfolding fill_state
+      refused_without_limit e = rw (last_question ∙ pick_no (all_limited ls ps) 0 10 e)
 
       pub answered : all_limited ls ps ≡ true → record { number = 0; free = range_free ls ps } ≡ fill_state ls ps
       unfolding fill_state
@@ -130,7 +155,7 @@ pub record Passed (ls : List ℕ) (ps : List ExternalsPartitionRangeReaderState)
   pub counts_fit : partitions_number ps ≡ 0
   pub limited : all_limited ls ps ≡ true
 
-number_zero : (b : Bool) (n : ℕ) → 0 < n → pick b 0 n ≡ 0 → b ≡ true
+pub number_zero : (b : Bool) (n : ℕ) → 0 < n → pick b 0 n ≡ 0 → b ≡ true
 number_zero true n h e = refl
 number_zero false n h e = absurd (omega arith)
 
@@ -155,7 +180,7 @@ module _ (ps : List ExternalsPartitionRangeReaderState) (e : partitions_number p
 
   pub counts_kept : (r : ExternalsPartitionRangeReaderState) → r.count ≤ buffer_cap → partitions_number (set ps i r) ≡ 0
   unfolding partitions_number
-  counts_kept r g = pick_yes _ _ _ (every_set count_fits ps i r counts h ∙ rw (le-leb r.count buffer_cap g) (or_later (not r.present) true refl))
+  counts_kept r g = pick_yes _ _ _ (every_set count_fits ps i r counts h ∙ rw (le-leb r.count buffer_cap g) (or_right (not r.present) true refl))
 
 module _ (ls : List ℕ) (ps : List ExternalsPartitionRangeReaderState) (same : length ls ≡ length ps) (e : all_limited ls ps ≡ true) (i : ℕ) (h : i < length ls) where
   limited_at : has_limit (get_or ls i 0) (get_or ps i no_partition) ≡ true

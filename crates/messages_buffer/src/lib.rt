@@ -12,9 +12,11 @@ use refusals::Refusal;
 pub const BUFFER_CAP: u32 = 1024;
 
 // In a table of limits: the partition has no limit, that is no entry. It never means unbounded.
+// A number and no `Option`: C interface, document 01 names the form.
 pub const NO_LIMIT: u16 = 65535;
 
 // One partition's record in a range. Where it is not present its numbers are free.
+// `present` is a flag and no `Option`: C interface, document 01 names the form.
 #[repr(C)]
 #[derive(Clone, Copy, Debug, PartialEq, Eq)]
 pub struct ExternalsPartitionRangeReaderState {
@@ -33,6 +35,7 @@ pub const NO_PARTITION: ExternalsPartitionRangeReaderState = ExternalsPartitionR
 };
 
 // How many messages more one buffer takes: 0 where it is full.
+#[tactic(auto, unfolding(crate::specs::Fullness::free_in))]
 pub fn check_is_filled(count: u32, limit: u16) -> u16
     ensures { result ≡ free_in count limit }
 {
@@ -106,6 +109,7 @@ fn range_free(limits: [u16; 8], partitions: [ExternalsPartitionRangeReaderState;
 }
 
 // The fewest free places of a range's buffers, 1,024 where it has none; questions 4, 5 and 10 come first.
+#[tactic(auto, using(refusals::proofs::Laws::handed_on, refusals::proofs::Laws::number_is_some, crate::proofs::Laws::fill_number_4, crate::proofs::Laws::fill_number_5, crate::proofs::Laws::refused_without_limit, crate::proofs::Laws::answered), unfolding(crate::specs::Fullness::fill_state))]
 pub fn get_max_buffers_fill_state(
     limits: [u16; 8],
     partitions: [ExternalsPartitionRangeReaderState; 8],

@@ -20,7 +20,8 @@ pub enum Field {
     Bytes,
 }
 
-// The word that a line begins with, what kind of record it is, if one at all, and its fields.
+// The word that a line begins with, what kind of record it is, if one at all, and its fields. The kind is the number
+// that is written: no code here tells one kind from another (no plainer as an enum).
 #[derive(Clone, Copy, Debug)]
 pub struct Form(pub &'static str, pub Option<u16>, pub &'static [Field]);
 

@@ -43,9 +43,7 @@ fn put_values<'a>(
 
 fn put_zeros(values: &[Value], record: &mut Record) {
     for value in values {
-        for _ in 0..value.size() {
-            record.put(&[0]);
-        }
+        record.put(value.zeros());
     }
 }
 

@@ -80,7 +80,8 @@ impl Maker {
     }
 }
 
-// The last line may lack its end; where the text can't be read, there is no last line.
+// The last line may lack its end; where the text can't be read, there is no last line. The input says when it ends; a
+// loop has to end of itself, so it counts as far as a number goes (no plainer).
 fn run(rt: &HostRuntime) -> Result<(), Stopped> {
     let mut maker = Maker::new();
     let mut text = [0u8; LINE];

@@ -1,5 +1,6 @@
 // The bytes of a record.
 use arrayvec::ArrayVec;
+use std::io::Write;
 
 // The most that a record may have.
 const MOST: usize = 131_072;
@@ -7,7 +8,8 @@ const MOST: usize = 131_072;
 // One more, by which a record that is too long is known.
 const ROOM: usize = MOST + 1;
 
-// Bytes without room are left out.
+// Bytes without room are left out, and `put` answers nothing (no plainer): a refusal by it would come before that of a
+// wrong word behind, and other lines would be told.
 #[derive(Drop)]
 pub struct Record(ArrayVec<u8, ROOM>);
 
@@ -29,11 +31,7 @@ impl Record {
     }
 
     pub fn put(&mut self, bytes: &[u8]) {
-        for b in bytes {
-            if self.0.try_push(*b).is_err() {
-                return;
-            }
-        }
+        let _ = self.0.write(bytes);
     }
 
     // Room for a head: the length of what is behind it, 4 bytes, and the kind, 2, with which the length begins.

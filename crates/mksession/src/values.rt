@@ -4,6 +4,11 @@ ghost use Rattle.std.specs.Prelude.{◌≤◌};
 use crate::record::Record;
 use crate::words;
 
+// The bytes of an account, and of an address: the workchain's byte, and the account.
+const ACCOUNT: usize = 32;
+
+const ADDRESS: usize = 1 + ACCOUNT;
+
 #[derive(Clone, Copy, Debug, PartialEq, Eq)]
 pub enum Value {
     U8,
@@ -22,14 +27,15 @@ pub enum Value {
 }
 
 impl Value {
-    pub fn size(self) -> usize {
+    // What stands in its place where the field is left out.
+    pub fn zeros(self) -> &'static [u8] {
         match self {
-            Value::Mark | Value::U8 => 1,
-            Value::Limit => 2,
-            Value::U32 | Value::Workchain => 4,
-            Value::U64 | Value::Prefix => 8,
-            Value::Account => 32,
-            Value::Address => 33,
+            Value::Mark | Value::U8 => &[0],
+            Value::Limit => &[0; 2],
+            Value::U32 | Value::Workchain => &[0; 4],
+            Value::U64 | Value::Prefix => &[0; 8],
+            Value::Account => &[0; ACCOUNT],
+            Value::Address => &[0; ADDRESS],
         }
     }
 
@@ -58,14 +64,11 @@ fn number(word: &[u8], radix: u32) -> Option<u64>
     if word.is_empty() {
         return None;
     }
-    let mut n = 0u64;
-    for b in word {
+    word.iter().try_fold(0u64, |n, b| {
         let digit = char::from(*b).to_digit(radix)?;
-        n = n
-            .checked_mul(u64::from(radix))?
-            .checked_add(u64::from(digit))?;
-    }
-    Some(n)
+        n.checked_mul(u64::from(radix))?
+            .checked_add(u64::from(digit))
+    })
 }
 
 fn decimal(word: &[u8]) -> Option<u64> {
@@ -103,12 +106,12 @@ pub fn put_bytes(word: &[u8], record: &mut Record) -> Option<()> {
     Some(())
 }
 
-// The first bytes of 32; the others are 0.
-fn account(word: &[u8]) -> Option<[u8; 32]> {
-    if 64 < word.len() {
+// Its first bytes; the others are 0.
+fn account(word: &[u8]) -> Option<[u8; ACCOUNT]> {
+    if 2 * ACCOUNT < word.len() {
         return None;
     }
-    let mut account = [0; 32];
+    let mut account = [0; ACCOUNT];
     for (place, digits) in account.iter_mut().zip(word.chunks(2)) {
         *place = byte(digits)?;
     }
@@ -116,9 +119,9 @@ fn account(word: &[u8]) -> Option<[u8; 32]> {
 }
 
 // WORKCHAIN:ACCOUNT.
-fn address(word: &[u8]) -> Option<[u8; 33]> {
+fn address(word: &[u8]) -> Option<[u8; ADDRESS]> {
     let (workchain, digits) = words::split_once(word, b':')?;
-    let mut address = [0; 33];
+    let mut address = [0; ADDRESS];
     address[..1].copy_from_slice(&i8::try_from(signed(workchain)?).ok()?.to_le_bytes());
     address[1..].copy_from_slice(&account(digits)?);
     Some(address)

@@ -6,11 +6,13 @@ ghost use Rattle.anchors_cache.specs.Calls.{on_zero, answer, with_cache, add_inf
 ghost use Rattle.cache_rules.specs.Rules.{max_history};
 
 use anchors_cache::{
-    ANCHOR_BYTES, AnchorInfo, AnchorsCache, AnchorsCacheTransaction, HISTORY_BYTES,
+    ANCHOR_BYTES, ANCHOR_LEN, AnchorInfo, AnchorsCache, AnchorsCacheTransaction, HISTORY_BYTES,
+    INFO_LEN,
 };
 use cache_rules::{AREA_BYTES, MAX_ANCHOR_MESSAGES, MAX_ANCHORS, MAX_HISTORY, MAX_MESSAGES};
 use ext_types::ChainTime;
 use refusals::Refusal;
+use rows::MESSAGE_LEN;
 
 // A history entry: the record's payload is its row.
 fn with_info(tables: &mut [u8], c: AnchorsCache, p: &[u8]) -> AnchorsCache {
@@ -20,8 +22,8 @@ fn with_info(tables: &mut [u8], c: AnchorsCache, p: &[u8]) -> AnchorsCache {
     let at = rows::append(
         tables,
         0,
-        52 * c.history_first,
-        52 * c.history_len,
+        INFO_LEN * c.history_first,
+        INFO_LEN * c.history_len,
         HISTORY_BYTES,
         p,
     );
@@ -54,7 +56,8 @@ pub fn append_info(
     Ok(AnchorsCacheTransaction { cache, ..t })
 }
 
-// The call that does so: the payload's fields.
+// The call that does so: the payload's fields. `history_row` takes whole tables alone, and the payload is one row of
+// them (no plainer).
 pub fn add_info(
     tables: &mut [u8],
     area: &[u8],
@@ -119,12 +122,19 @@ fn with_anchor(
     let at = rows::append(
         tables,
         HISTORY_BYTES,
-        50 * c.first,
-        50 * c.len,
+        ANCHOR_LEN * c.first,
+        ANCHOR_LEN * c.len,
         ANCHOR_BYTES,
         row,
     );
-    let from = rows::append(area, 0, 33 * c.base, 33 * used, AREA_BYTES, messages);
+    let from = rows::append(
+        area,
+        0,
+        MESSAGE_LEN * c.base,
+        MESSAGE_LEN * used,
+        AREA_BYTES,
+        messages,
+    );
     AnchorsCache {
         first: at.placed(c.first),
         len: c.len + 1,
@@ -134,7 +144,7 @@ fn with_anchor(
     }
 }
 
-// A cached anchor: the first 50 bytes of the payload are its row.
+// A cached anchor: the payload begins with its row.
 // Refused with 9 where a transaction is open, with 5 where it is not as question 5 wants it.
 #[tactic(auto, using(std::proofs::lemmas::Bool::Decides::nat_tests), unfolding(anchors_cache::specs::Calls::answer))]
 pub fn append_anchor(
@@ -152,7 +162,7 @@ pub fn append_anchor(
     if t.active {
         return Err(Refusal::TransactionOpenOrNone);
     }
-    let Some((row, messages)) = p.split_at_checked(50) else {
+    let Some((row, messages)) = p.split_at_checked(ANCHOR_LEN) else {
         return Err(Refusal::StateUnsound);
     };
     if !has_place(&*tables, t.cache, row) {

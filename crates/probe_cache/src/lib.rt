@@ -1,5 +1,6 @@
 // The anchors cache in a session of extprobe: its answers and its state as text, and rows put without a call.
 // Text goes to lent bytes from a place on, as far as they reach; each function answers the place behind its text.
+// `(out, at)` are no struct: one that holds `&mut` needs a `ghost_name` clause in each function (no plainer).
 #![tactic(auto)]
 
 ghost use Rattle.text.specs.Shown.{Puts};

@@ -1,8 +1,8 @@
 // The cache's state, in lines that begin with S.
 ghost use Rattle.text.specs.Shown.{Puts};
 
-use anchors_cache::{AnchorsCacheTransaction, Authored, CachedAnchor};
-use cache_rules::MAX_HISTORY;
+use anchors_cache::{AnchorInfo, AnchorsCacheTransaction, Authored, CachedAnchor};
+use rows::MESSAGE_LEN;
 
 // Each byte to 31 times what went before, in 32 bits.
 fn digest(start: u32, bytes: &[u8]) -> u32 {
@@ -13,7 +13,7 @@ fn digest(start: u32, bytes: &[u8]) -> u32 {
 
 // Of the messages of an anchor.
 fn digest_messages(start: u32, area: &[u8], place: usize, count: usize) -> u32 {
-    area.chunks_exact(33)
+    area.chunks_exact(MESSAGE_LEN)
         .skip(place)
         .take(count)
         .fold(start, digest)
@@ -52,17 +52,18 @@ fn put_anchors(
     to
 }
 
-// A row of the history.
-fn put_info(out: &mut [u8], at: usize, row: &[u8]) -> usize
+// An entry of the history, with a digest of its author.
+fn put_info(out: &mut [u8], at: usize, found: Authored<AnchorInfo>) -> usize
     ensures { Puts (record { at = at; bytes = out.old }) (record { at = result; bytes = out.new }) }
 {
+    let info = found.value;
     let rest = [
-        rows::num_at::<u64>(row, 4),
-        u64::from(rows::num_at::<u32>(row, 12)),
-        u64::from(rows::num_at::<u32>(row, 16)),
-        u64::from(digest(0, row.get(20..).unwrap_or_default())),
+        info.ct.0,
+        u64::from(info.all_exts_count),
+        u64::from(info.our_exts_count),
+        u64::from(digest(0, &found.author)),
     ];
-    text::put_joined(out, at, u64::from(rows::num_at::<u32>(row, 0)), &rest)
+    text::put_joined(out, at, u64::from(info.id), &rest)
 }
 
 #[tactic(auto, using(text::proofs::Laws::puts_nothing))]
@@ -70,13 +71,9 @@ fn put_history(out: &mut [u8], at: usize, tables: &[u8], first: usize, len: usiz
     ensures { Puts (record { at = at; bytes = out.old }) (record { at = result; bytes = out.new }) }
 {
     let mut to = at;
-    for row in tables
-        .chunks_exact(52)
-        .take(MAX_HISTORY)
-        .skip(first)
-        .take(len)
-    {
-        to = put_info(&mut *out, to, row);
+    let rows = first..first.saturating_add(len);
+    for found in rows.map_while(|i| anchors_cache::history_entry(tables, i)) {
+        to = put_info(&mut *out, to, found);
     }
     to
 }

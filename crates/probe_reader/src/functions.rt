@@ -12,7 +12,9 @@ pub struct Called {
     pub at: usize,
 }
 
-// The calls' names, as a record numbers them, from 1.
+// The calls' names, as a record numbers them, from 1. They stand apart from the calls, since a function with both
+// would have more than 40 lines (no plainer). A call is known by its number, here and in `call`: an enum would list
+// them all twice more, by variants and by their numbers (no plainer).
 const NAMES: [&str; 22] = [
     "finalize",
     "open_ranges_limit_reached",
@@ -37,6 +39,9 @@ const NAMES: [&str; 22] = [
     "drop_last_read_to_anchor_chain_time",
     "get_partition_ids",
 ];
+
+// The greatest number of a call.
+pub const FUNCTIONS: u8 = NAMES.len() as u8;
 
 fn name_of(which: u8) -> Option<&'static str> {
     NAMES.get(usize::from(which.checked_sub(1)?)).copied()
@@ -143,10 +148,7 @@ fn put_answer(out: &mut [u8], at: usize, name: &str, answer: Answer) -> usize
     ensures { Puts (record { at = at; bytes = out.old }) (record { at = result; bytes = out.new }) }
 {
     match answer {
-        Answer::Left(left) => {
-            let number = left.map_or_else(u8::from, |_| 0);
-            text::put_call(out, at, name.as_bytes(), number)
-        }
+        Answer::Left(left) => text::put_call(out, at, name.as_bytes(), refusals::number(left)),
         Answer::Flag(flag) => put_flag(out, at, name, flag),
         Answer::Values(values) => {
             let items = values.map(|all| all.map(|value| value.map(|value| [u64::from(value)])));

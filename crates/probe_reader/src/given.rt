@@ -1,5 +1,5 @@
 // Ranges, partitions and marks of a reader that are put without a call, from a record's payload.
-ghost use Rattle.std.specs.Prelude.{◌<◌, ◌≡◌, eqb, get_or};
+ghost use Rattle.std.specs.Prelude.{◌<◌, ◌≡◌, eqb, get_or, IfSome};
 ghost use Rattle.reader_rules.specs.State.{with_state, with_mark, with_last};
 ghost use Rattle.externals_reader.specs.Answers.{reader_done_of};
 ghost use Rattle.externals_reader.specs.Calls.{changed};
@@ -7,11 +7,16 @@ ghost use Rattle.probe_reader.specs.Given.{last_of, with_partitions, with_ranges
 
 use ext_types::{ChainTime, ExternalKey};
 use messages_buffer::{ExternalsPartitionRangeReaderState, NO_PARTITION};
-use range_rules::{ExternalsRangeReaderState, ProcessedTo};
+use range_rules::ExternalsRangeReaderState;
 use reader_rules::{
     ExternalsPartitionReaderState, ExternalsReader, ExternalsReaderState, MAX_RANGES,
 };
 use refusals::Refusal;
+
+// A range without its partitions, and one of these.
+pub const RANGE_HEAD: usize = 49;
+
+pub const PARTITION_LEN: usize = 13;
 
 // Fields past the end of a payload are 0.
 fn key_at(p: &[u8], at: usize) -> ExternalKey
@@ -32,9 +37,13 @@ fn partition_of(row: &[u8]) -> ExternalsPartitionRangeReaderState {
     }
 }
 
-fn partitions_at(p: &[u8], at: usize) -> [ExternalsPartitionRangeReaderState; 8] {
+// extprobe cuts the rows once more: out of a function for both, the loop's proof lacks their width (tried).
+fn partitions_of(p: &[u8]) -> [ExternalsPartitionRangeReaderState; 8] {
     let mut all = [NO_PARTITION; 8];
-    let rows = p.get(at..).unwrap_or_default().chunks_exact(13);
+    let rows = p
+        .get(RANGE_HEAD..)
+        .unwrap_or_default()
+        .chunks_exact(PARTITION_LEN);
     for (partition, row) in all.iter_mut().zip(rows) {
         *partition = partition_of(row);
     }
@@ -49,7 +58,7 @@ fn range_of(p: &[u8]) -> ExternalsRangeReaderState {
         current_position: key_at(p, 28),
         chain_time: ChainTime(rows::num_at(p, 40)),
         fully_read: rows::byte_at(p, 48) == 1,
-        by_partitions: partitions_at(p, 49),
+        by_partitions: partitions_of(p),
     }
 }
 
@@ -79,43 +88,34 @@ pub(crate) fn find(state: ExternalsReaderState, seqno: u32) -> Option<ExternalsR
         .copied()
 }
 
-// A range in place of that with its seqno, or one more, put where its seqno belongs; a full table takes none.
-fn inserted(state: ExternalsReaderState, range: ExternalsRangeReaderState) -> ExternalsReaderState
-    ensures { result ≡ with_ranges state result }
+// A range in place of that with its seqno, or one more, put where its seqno belongs; none where there is no place.
+fn inserted(
+    state: ExternalsReaderState,
+    range: ExternalsRangeReaderState,
+) -> Option<ExternalsReaderState>
+    ensures { IfSome result (λ s. s ≡ with_ranges state s) }
 {
     let len = state.len.min(MAX_RANGES);
     let mut ranges = state.ranges;
-    let at = ranges[..len]
-        .iter()
-        .position(|held| range.seqno <= held.seqno)
-        .unwrap_or(len);
-    if at < len && ranges[at].seqno == range.seqno {
-        ranges[at] = range;
-        return ExternalsReaderState { ranges, ..state };
-    }
-    if len == MAX_RANGES {
-        return state;
-    }
-    ranges.copy_within(at..len, at + 1);
-    ranges[at] = range;
-    ExternalsReaderState {
-        ranges,
-        len: len + 1,
-        ..state
+    match ranges[..len].binary_search_by_key(&range.seqno, |held| held.seqno) {
+        Ok(at) => {
+            ranges[at] = range;
+            Some(ExternalsReaderState { ranges, ..state })
+        }
+        Err(_) if len == MAX_RANGES => None,
+        Err(at) => {
+            ranges.copy_within(at..len, at + 1);
+            ranges[at] = range;
+            Some(ExternalsReaderState {
+                ranges,
+                len: len + 1,
+                ..state
+            })
+        }
     }
 }
 
-// Question 5 of a range that is put.
-fn check_range(
-    state: ExternalsReaderState,
-    range: ExternalsRangeReaderState,
-) -> Result<(), Refusal> {
-    if MAX_RANGES <= state.len && find(state, range.seqno).is_none() {
-        return Err(Refusal::StateUnsound);
-    }
-    messages_buffer::check_partitions(range.by_partitions)
-}
-
+// The reader with a range; where there is no place, as it was.
 pub(crate) fn with_range(
     reader: ExternalsReader,
     range: ExternalsRangeReaderState,
@@ -123,7 +123,7 @@ pub(crate) fn with_range(
     ensures { result ≡ with_state reader (with_ranges reader.reader_state result.reader_state) }
 {
     ExternalsReader {
-        reader_state: inserted(reader.reader_state, range),
+        reader_state: inserted(reader.reader_state, range).unwrap_or(reader.reader_state),
         ..reader
     }
 }
@@ -131,11 +131,16 @@ pub(crate) fn with_range(
 // A range, with question 5 of it.
 pub fn put_range(reader: ExternalsReader, p: &[u8]) -> Result<ExternalsReader, Refusal>
     ensures { let done = reader_done_of reader result in
-        done ≡ changed done.number reader (with_state reader (with_ranges reader.reader_state done.reader.reader_state)) }
+        let state = with_ranges reader.reader_state done.reader.reader_state in
+        done ≡ changed done.number reader (with_state reader state) }
 {
     let range = range_of(p);
-    check_range(reader.reader_state, range)?;
-    Ok(with_range(reader, range))
+    messages_buffer::check_partitions(range.by_partitions)?;
+    let reader_state = inserted(reader.reader_state, range).ok_or(Refusal::StateUnsound)?;
+    Ok(ExternalsReader {
+        reader_state,
+        ..reader
+    })
 }
 
 // A reader partition; one above 7 is not there.
@@ -143,17 +148,17 @@ pub fn with_partition(reader: ExternalsReader, p: &[u8]) -> ExternalsReader
     ensures { result ≡ with_state reader (with_partitions reader.reader_state result.reader_state.by_partitions) }
 {
     let i = usize::from(rows::byte_at(p, 0));
-    if 8 <= i {
-        return reader;
-    }
     let mut after = reader;
-    after.reader_state.by_partitions[i] = reader_partition_of(p);
+    if let Some(partition) = after.reader_state.by_partitions.get_mut(i) {
+        *partition = reader_partition_of(p);
+    }
     after
 }
 
 // All ranges read 1; last chain time: present 1, value 8.
 pub fn with_marks(reader: ExternalsReader, p: &[u8]) -> ExternalsReader
-    ensures { result ≡ with_mark (with_state reader (with_last reader.reader_state (last_of p.now))) (eqb (get_or p.now 0 0) 1) }
+    ensures { let state = with_last reader.reader_state (last_of p.now) in
+        result ≡ with_mark (with_state reader state) (eqb (get_or p.now 0 0) 1) }
 {
     ExternalsReader {
         reader_state: ExternalsReaderState {
@@ -163,12 +168,4 @@ pub fn with_marks(reader: ExternalsReader, p: &[u8]) -> ExternalsReader
         all_ranges_fully_read: rows::byte_at(p, 0) == 1,
         ..reader
     }
-}
-
-// The processed positions, by partition.
-pub(crate) fn processed_in(state: ExternalsReaderState) -> [ProcessedTo; 8] {
-    state.by_partitions.map(|partition| ProcessedTo {
-        key: partition.processed_to,
-        present: partition.present,
-    })
 }

@@ -5,7 +5,7 @@ use crate::{given, shown};
 use anchors_cache::AnchorsCacheTransaction;
 use cache_rules::AREA_BYTES;
 use externals_reader::ReadIntoBuffers;
-use range_reader::{RangeSettings, ReadExternals};
+use range_reader::{Lent, RangeSettings, ReadExternals};
 use range_rules::{ENTRY_LEN, ReadCounts, ReadNextExternalsMode};
 use reader_rules::{ExternalsReader, GetNextMessageGroupMode};
 use refusals::Refusal;
@@ -16,14 +16,12 @@ pub const MAX_PLACES: usize = 1024;
 // The most bytes of one: those places, and too few more for another.
 pub const OUTPUT_BYTES: usize = ENTRY_LEN * MAX_PLACES + 25;
 
-// What is lent to a read: the reader, the cache and the bytes, and how many bytes of an output.
+// What a read is handed: the reader, the cache, the lent bytes, and how many bytes of an output.
 #[derive(Clone, Copy)]
-pub struct Lent<'a> {
+pub struct Handed<'a> {
     pub reader: ExternalsReader,
     pub cache: AnchorsCacheTransaction,
-    pub tables: &'a [u8],
-    pub area: &'a [u8],
-    pub routes: &'a [u8],
+    pub lent: Lent<'a>,
     pub output: usize,
 }
 
@@ -36,10 +34,10 @@ pub struct Answered {
 }
 
 // What is asked of a range that is not there.
-fn missing(lent: Lent<'_>) -> Refusal {
-    if lent.area.len() < AREA_BYTES {
+fn missing(handed: Handed<'_>) -> Refusal {
+    if handed.lent.area.len() < AREA_BYTES {
         Refusal::AreaTooShort
-    } else if !lent.cache.active {
+    } else if !handed.cache.active {
         Refusal::TransactionOpenOrNone
     } else {
         Refusal::NotThere
@@ -48,17 +46,17 @@ fn missing(lent: Lent<'_>) -> Refusal {
 
 // A read of a range that is not there is refused before the call.
 fn range_read(
-    lent: Lent<'_>,
+    handed: Handed<'_>,
     seqno: u32,
     mode: ReadNextExternalsMode,
     output: &mut [u8],
 ) -> Result<ReadExternals, Refusal> {
-    let reader = lent.reader;
+    let reader = handed.reader;
     let Some(range) = given::find(reader.reader_state, seqno) else {
-        return Err(missing(lent));
+        return Err(missing(handed));
     };
     let limits = reader.buffer_limits_by_partitions;
-    let processed = given::processed_in(reader.reader_state);
+    let processed = externals_reader::processed_in(reader.reader_state.by_partitions);
     let settings = RangeSettings {
         shard: reader.for_shard_id,
         limits,
@@ -66,31 +64,19 @@ fn range_read(
         timeout: reader.msgs_exec_params.externals_expire_timeout,
         mode,
     };
-    range_reader::read_externals_into_buffers(
-        lent.tables,
-        lent.area,
-        lent.cache,
-        lent.routes,
-        settings,
-        range,
-        output,
-    )
+    range_reader::read_externals_into_buffers(handed.lent, handed.cache, settings, range, output)
 }
 
 // The counts of a partition, where not all are 0.
 #[tactic(auto, using(text::proofs::Laws::puts_nothing))]
-fn put_count(out: &mut [u8], at: usize, i: usize, read: u32, expired: u32, buffered: u32) -> usize
+fn put_count(out: &mut [u8], at: usize, i: usize, counts: [u32; 3]) -> usize
     ensures { Puts (record { at = at; bytes = out.old }) (record { at = result; bytes = out.new }) }
 {
-    if read == 0 && expired == 0 && buffered == 0 {
+    if counts == [0; 3] {
         return at;
     }
-    let numbers = [
-        i as u64,
-        u64::from(read),
-        u64::from(expired),
-        u64::from(buffered),
-    ];
+    let [read, expired, buffered] = counts.map(u64::from);
+    let numbers = [i as u64, read, expired, buffered];
     text::put_line(out, at, b"count", &numbers)
 }
 
@@ -99,15 +85,9 @@ fn put_counts(out: &mut [u8], at: usize, counts: &ReadCounts) -> usize
     ensures { Puts (record { at = at; bytes = out.old }) (record { at = result; bytes = out.new }) }
 {
     let mut to = at;
-    for i in 0..8 {
-        to = put_count(
-            &mut *out,
-            to,
-            i,
-            counts.read[i],
-            counts.expired[i],
-            counts.buffered[i],
-        );
+    let columns = counts.read.iter().zip(&counts.expired);
+    for (i, ((read, expired), buffered)) in columns.zip(&counts.buffered).enumerate() {
+        to = put_count(&mut *out, to, i, [*read, *expired, *buffered]);
     }
     to
 }
@@ -140,18 +120,18 @@ fn put_all(out: &mut [u8], at: usize, output: &[u8], read: ReadIntoBuffers) -> u
 }
 
 // A refused read leaves reader and cache, and answers nothing but the number.
-fn refused(out: &mut [u8], at: usize, lent: Lent<'_>, name: &[u8], refusal: Refusal) -> Answered
+fn refused(out: &mut [u8], at: usize, handed: Handed<'_>, name: &[u8], refusal: Refusal) -> Answered
     ensures { Puts (record { at = at; bytes = out.old }) (record { at = result.at; bytes = out.new }) }
 {
     Answered {
         at: text::put_call(out, at, name, refusal.into()),
-        reader: lent.reader,
-        cache: lent.cache,
+        reader: handed.reader,
+        cache: handed.cache,
     }
 }
 
 // One range's read: seqno 4, mode 1.
-pub fn one(out: &mut [u8], at: usize, lent: Lent<'_>, p: &[u8]) -> Answered
+pub fn one(out: &mut [u8], at: usize, handed: Handed<'_>, p: &[u8]) -> Answered
     ensures { Puts (record { at = at; bytes = out.old }) (record { at = result.at; bytes = out.new }) }
 {
     let mode = match rows::byte_at(p, 4) {
@@ -159,38 +139,45 @@ pub fn one(out: &mut [u8], at: usize, lent: Lent<'_>, p: &[u8]) -> Answered
         _ => ReadNextExternalsMode::ToPreviuosReadTo,
     };
     let mut output = [0; OUTPUT_BYTES];
-    let n = lent.output.min(OUTPUT_BYTES);
-    match range_read(lent, rows::num_at(p, 0), mode, &mut output[..n]) {
+    let n = handed.output.min(OUTPUT_BYTES);
+    match range_read(handed, rows::num_at(p, 0), mode, &mut output[..n]) {
         Ok(read) => Answered {
             at: put_one(out, at, &output, read),
-            reader: given::with_range(lent.reader, read.range),
+            reader: given::with_range(handed.reader, read.range),
             cache: read.state,
         },
-        Err(refusal) => refused(out, at, lent, b"one", refusal),
+        Err(refusal) => refused(out, at, handed, b"one", refusal),
     }
 }
 
-// The read of all ranges.
-pub fn all(out: &mut [u8], at: usize, lent: Lent<'_>, mode: GetNextMessageGroupMode) -> Answered
+// The mode of a read of all, by its number: 0, or another.
+fn group_mode(mode: u8) -> GetNextMessageGroupMode {
+    if mode == 0 {
+        GetNextMessageGroupMode::Continue
+    } else {
+        GetNextMessageGroupMode::Refill
+    }
+}
+
+// The read of all ranges. The mode's number, for the mode itself would ask more of callers.
+pub fn all(out: &mut [u8], at: usize, handed: Handed<'_>, mode: u8) -> Answered
     ensures { Puts (record { at = at; bytes = out.old }) (record { at = result.at; bytes = out.new }) }
 {
     let mut output = [0; OUTPUT_BYTES];
-    let n = lent.output.min(OUTPUT_BYTES);
-    let answer = externals_reader::read_into_buffers(
-        lent.tables,
-        lent.area,
-        lent.cache,
-        lent.routes,
-        lent.reader,
-        mode,
-        &mut output[..n],
-    );
-    match answer {
+    let n = handed.output.min(OUTPUT_BYTES);
+    let out_lent = &mut output[..n];
+    match externals_reader::read_into_buffers(
+        handed.lent,
+        handed.cache,
+        handed.reader,
+        group_mode(mode),
+        out_lent,
+    ) {
         Ok(read) => Answered {
             at: put_all(out, at, &output, read),
             reader: read.reader,
             cache: read.state,
         },
-        Err(refusal) => refused(out, at, lent, b"read", refusal),
+        Err(refusal) => refused(out, at, handed, b"read", refusal),
     }
 }

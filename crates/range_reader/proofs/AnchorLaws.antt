@@ -32,7 +32,7 @@ use Rattle.range_reader.specs.Ready.{Wrote, Tells, Eight, walk_told, walk_tells,
 use Rattle.range_rules.proofs.Counts.{weaker, within_up, within_refused, message_stepped, expired_one_le}
 use Rattle.range_rules.proofs.WalkEnd.{past_the_count_no_message_is_walked}
 use Rattle.range_reader.proofs.Eight.{eight_anchor}
-use Rattle.range_reader.proofs.MessageLaws.{wrote_long, wrote_more}
+use Rattle.range_reader.proofs.MessageLaws.{wrote_nothing, wrote_long, wrote_more}
 
 -- ---- step 6
 -- a walk that a question refused ends the read
@@ -221,11 +221,11 @@ module _ (x : Context) (routes area : List ℕ) (id : ℕ) (time : ChainTime) (p
 
     module _ (fresh : expired_at x.chain_time time x.limit ≡ false) where
       -- over the messages from the offset on
-      anchor_over : (o : List ℕ) (says : RangeRead → Type 0) → says (finished x time count (messages_read x routes time (unread w (rows 33 count (drop (33 * place) area))) (silent w)).value r)
+      look_tells : (o : List ℕ) (says : RangeRead → Type 0) → says (finished x time count (messages_read x routes time (unread w (rows 33 count (drop (33 * place) area))) (silent w)).value r)
           → o ≡ pick write (sets out w.buffers.used (messages_read x routes time (unread w (rows 33 count (drop (33 * place) area))) (silent w)).entries) out
           → Tells write r.walk.buffers.used out o says (anchor_read x routes id time (rows 33 count (drop (33 * place) area)) r)
       unfolding anchor_read
-      anchor_over o says p g =
+      look_tells o says p g =
           let l = rows 33 count (drop (33 * place) area) in
           let u : w.buffers.used ≡ r.walk.buffers.used = ap (λ (a : Walk). a.buffers.used) we ∙ looked_used x id r.walk in
           let n : length l ≡ count = rows_length 33 count (drop (33 * place) area) in
@@ -241,7 +241,7 @@ module _ (x : Context) (routes area : List ℕ) (id : ℕ) (time : ChainTime) (p
             → range_tells q (finished x time count (walk_told v) r) → Looks r.walk.buffers.used o q
         anchor_walked v q h p =
             let g = walked_messages (walk_tells (Ok v)) h in
-            anchor_over o (range_tells q) (subst (λ (a : Walk). range_tells q (finished x time count a r)) g.value p) g.out
+            look_tells o (range_tells q) (subst (λ (a : Walk). range_tells q (finished x time count a r)) g.value p) g.out
 
         -- a question refused a message
         pub anchor_refused : (e : Refusal) → Tells write w.buffers.used out o (walk_tells (Err e)) (messages_read x routes time (whole_rows 33 rest) (silent w)) → Looks r.walk.buffers.used o (Err e)
@@ -249,14 +249,37 @@ module _ (x : Context) (routes area : List ℕ) (id : ℕ) (time : ChainTime) (p
             let g = walked_messages (walk_tells (Err e)) h in
             let s = messages_read x routes time (unread w (rows 33 count (drop (33 * place) area))) (silent w) in
             let n : (s.value.number ≡ 0 → ⊥) = λ z. refused_is_not_done e (g.value ∙ z) in
-            anchor_over o (range_tells (Err e)) (g.value ∙ sym (finish_refused x time count s.value r n)) g.out
+            look_tells o (range_tells (Err e)) (g.value ∙ sym (finish_refused x time count s.value r n)) g.out
 
-      pub anchor_past : (q : Result CodeRead Refusal) → count < w.place.key.msgs_offset → range_tells q (finished x time count w r) → Looks r.walk.buffers.used out q
-      anchor_past q past p =
+      pub past_tells : (q : Result CodeRead Refusal) → count < w.place.key.msgs_offset → range_tells q (finished x time count w r) → Looks r.walk.buffers.used out q
+      past_tells q past p =
           let l = rows 33 count (drop (33 * place) area) in
           let n : length l ≤ w.place.key.msgs_offset = omega (arith, rows_length 33 count (drop (33 * place) area)) in
           let e = past_the_count_no_message_is_walked x routes time l w.place.key.msgs_offset w n in
-          anchor_over out (range_tells q) (rw e p) (rw e (sym (pick_same write out)))
+          look_tells out (range_tells q) (rw e p) (rw e (sym (pick_same write out)))
+
+-- the same of the rules' own walk and read, whatever their number
+module _ (x : Context) (routes area : List ℕ) (id : ℕ) (time : ChainTime) (place count : ℕ) (r : RangeRead) (write : Bool) (out : List ℕ) (w : Walk) (i : x.position.anchor_id ≤ id) (we : w ≡ looked x id r.walk) (fresh : expired_at x.chain_time time x.limit ≡ false) where
+  -- over the messages from the offset on
+  pub anchor_over : (o : List ℕ) (v : Walk) (q : RangeRead) → Wrote write w.buffers.used out o v (messages_read x routes time (unread w (rows 33 count (drop (33 * place) area))) (silent w))
+      → q ≡ finished x time count v r → Wrote write r.walk.buffers.used out o q (anchor_read x routes id time (rows 33 count (drop (33 * place) area)) r)
+  unfolding anchor_read
+  anchor_over o v q g qe =
+      let l = rows 33 count (drop (33 * place) area) in
+      let u : w.buffers.used ≡ r.walk.buffers.used = ap (λ (a : Walk). a.buffers.used) we ∙ looked_used x id r.walk in
+      let n : length l ≡ count = rows_length 33 count (drop (33 * place) area) in
+      rw (le-ltb id x.position.anchor_id i, fresh, sym we, n)
+      (record {
+        value = qe ∙ ap (λ (a : Walk). finished x time count a r) g.value;
+        out = g.out ∙ ap (λ (k : ℕ). pick write (sets out k (messages_read x routes time (unread w l) (silent w)).entries) out) u;
+      })
+
+  pub anchor_past : (q : RangeRead) → count < w.place.key.msgs_offset → q ≡ finished x time count w r
+      → Wrote write r.walk.buffers.used out out q (anchor_read x routes id time (rows 33 count (drop (33 * place) area)) r)
+  anchor_past q past =
+      let l = rows 33 count (drop (33 * place) area) in
+      let n : length l ≤ w.place.key.msgs_offset = omega (arith, rows_length 33 count (drop (33 * place) area)) in
+      anchor_over out w q (rw (past_the_count_no_message_is_walked x routes time l w.place.key.msgs_offset w n) (wrote_nothing write w.buffers.used out w w refl))
 
 -- ---- the anchors
 -- the front anchor of a window

@@ -1,10 +1,10 @@
--- An entry in the lent output: five stores are one, and what is stored in a part of a list is stored in the list.
+-- An entry in the lent output: five stores are one.
 use Prim.Native.Nat.{ℕ, ◌+◌, ◌≤◌}
-use mathlib.Core.Path.{◌≡◌, sym, ap, ◌∙◌}
-use mathlib.Core.List.{List, [], ◌++◌, append-nil, append_assoc}
+use mathlib.Core.Path.{◌≡◌}
+use mathlib.Core.List.{List}
 use native.Mathlib.Omega.{arith}
-use lib.ListN.{length, take, drop, length-take, length-drop, drop_of_length-le}
-use lib.Seq.{sets, sets-eq, drop-drop, length-sets}
+use lib.ListN.{length}
+use lib.Seq.{sets, length-sets}
 use Rattle.rows.specs.Rows.{le, written}
 use Rattle.rows.proofs.Laws.{sets_append, length_le, written_in}
 use Rattle.ext_types.specs.declared.ChainTime.{ChainTime}
@@ -36,17 +36,3 @@ entry_written l at seqno p key time h =
       put_in (at + 18) 8 time.0 l4 (simp length-sets (omega arith)),
     )
     (simp (sets_append, length_le, e2, e3, e4))
-
--- ---- a part
--- What is stored in a part, from its start on and to its end, is stored in the list.
-pub part_stored : (l : List ℕ) (at n : ℕ) (vs ys : List ℕ) → at + n ≤ length l → length vs ≡ n → ys ≡ sets (take n (drop at l)) 0 vs
-    → take at l ++ (ys ++ drop n (drop at l)) ≡ sets l at vs
-part_stored l at n vs ys h k e =
-    let p : length (take n (drop at l)) ≡ n = simp (length-take, length-drop) (omega arith) in
-    let q : sets (take n (drop at l)) 0 vs ≡ vs ++ drop (0 + length vs) (take n (drop at l)) = sets-eq vs (take n (drop at l)) 0 (omega arith) in
-    let g : length (take n (drop at l)) ≤ 0 + length vs = omega arith in
-    let r : drop (0 + length vs) (take n (drop at l)) ≡ [] = drop_of_length-le (take n (drop at l)) g in
-    let s : ys ≡ vs = e ∙ (q ∙ (ap (λ (x : List ℕ). vs ++ x) r ∙ append-nil vs)) in
-    let m : at + n ≡ at + length vs = omega arith in
-    let t : drop n (drop at l) ≡ drop (at + length vs) l = drop-drop n at l ∙ ap (λ (i : ℕ). drop i l) m in
-    rw (s, t) (sym (append_assoc (take at l) vs (drop (at + length vs) l)) ∙ sym (sets-eq vs l at (omega arith)))

@@ -1,8 +1,8 @@
 -- What the walk's locals stand for moves on with each message as the walk does.
-use Prim.Native.Nat.{ℕ, suc, zero, ◌+◌, ◌-◌, ◌*◌, ◌^◌, ◌≤◌, ◌<◌}
+use Prim.Native.Nat.{ℕ, ◌+◌, ◌-◌, ◌*◌, ◌^◌, ◌≤◌, ◌<◌}
 use mathlib.Core.Path.{◌≡◌, refl, sym, ap, ◌∙◌}
 use mathlib.Core.Bool.{Bool, true, false, cond, ◌||◌, ◌&&◌}
-use mathlib.Core.List.{List, [], ◌∷◌}
+use mathlib.Core.List.{List, []}
 use mathlib.Core.Logic.{inr}
 use native.Mathlib.Omega.{arith}
 use lib.Dec.{eqb, ltb, leb}
@@ -13,6 +13,8 @@ use Rattle.std.proofs.Common.{Less, Equal, Greater}
 use Rattle.std.specs.Ordering.{is_lt, nat_cmp, ordering_then, ord_max}
 use Rattle.ext_types.specs.contracts.ExternalKeyOrd.TheImpl as derived
 use Rattle.rows.specs.Rows.{pick, rows}
+use Rattle.std.proofs.lemmas.List.{set-get_or}
+use Rattle.std.proofs.Math.Bool.{or-false, or-true}
 use Rattle.rows.proofs.Laws.{pick_yes, pick_no, pick_same}
 use Rattle.ext_types.specs.declared.ChainTime.{ChainTime}
 use Rattle.ext_types.specs.declared.ExternalKey.{ExternalKey}
@@ -108,15 +110,10 @@ module _ (end : ExternalKey) (place : Place) (offset : ℕ) where
           ap (λ (t : ExternalKey). record { key = k; reached = end_reached k end; position = k; to = t }) (raised_again (key_at place.key.anchor_id offset) place.to)
 
 -- ---- lists
-pub set_same : {A : Type 0} (l : List A) (p : ℕ) (d : A) → set l p (get_or l p d) ≡ l
-set_same [] p d = refl
-set_same (x ∷ l) zero d = refl
-set_same (x ∷ l) (suc p) d = ap (◌∷◌ x) (set_same l p d)
-
 none_more : (l : List ℕ) (p : ℕ) → set l p (get_or l p 0 + 0) ≡ l
 none_more l p =
     let e : get_or l p 0 + 0 ≡ get_or l p 0 = omega arith in
-    rw e (set_same l p 0)
+    rw e (set-get_or l p 0)
 
 -- ---- the walk
 module _ (x : Context) (start : CodeWalk) where
@@ -152,7 +149,7 @@ module _ (x : Context) (start : CodeWalk) where
         → (t : Taken) → Ok t ≡ taken v (get_or x.limits p 0) (get_or partitions p no_partition) b
         → walk offset t.progress (set partitions p t.partition) (set read p (get_or read p 0 + 1)) (set buffered₁ p (get_or buffered₁ p 0 + t.buffered)) ≡ (after v x time p (walk offset b partitions read buffered₁)).value
     unfolding taken read_one buffer_one buffered
-    taken_locals Keep time p l h e f t g = let k : t ≡ record { progress = b; buffered = 0; partition = get_or partitions p no_partition } = cc in rw (k, set_same partitions p no_partition, none_more buffered₁ p)
+    taken_locals Keep time p l h e f t g = let k : t ≡ record { progress = b; buffered = 0; partition = get_or partitions p no_partition } = cc in rw (k, set-get_or partitions p no_partition, none_more buffered₁ p)
     taken_locals Buffer time p l h e f t g = let k : t ≡ grown (get_or x.limits p 0) (get_or partitions p no_partition) b = cc in rw (k, one_more_free x.limits partitions p h (omega arith) (f refl), sym e)
     taken_locals (Refuse n) time p l h e f t g = absurd cc
 
@@ -214,14 +211,6 @@ refused_stops : (x : Context) (w : Walk) → (w.number ≡ 0 → ⊥) → stoppe
 unfolding stopped
 refused_stops x w n = rw (ne_eqb w.number 0 n)
 
-or_no : (a : Bool) → (a || false) ≡ a
-or_no true = refl
-or_no false = refl
-
-or_yes : (a : Bool) → (a || true) ≡ true
-or_yes true = refl
-or_yes false = refl
-
 -- the start's offset plus n is behind the last message: less the offset, so many are left
 pub record LocalTurn (x : Context) (routes : List ℕ) (time : ChainTime) (rest : List ℕ) (n : ℕ) (write : Bool) (out₀ : List ℕ) (start : CodeWalk) (out : List ℕ) (offset : ℕ) (b : Progress) (partitions : List ExternalsPartitionRangeReaderState) (read buffered₁ : List ℕ) (at : ℕ) : Type 0 where
   pub turn : Turn x routes time rest n write out₀ (walk_told start) out (walk_told (walk_of start x.saved_end offset b partitions read buffered₁)) at (start.place.key.msgs_offset + n - offset)
@@ -274,7 +263,7 @@ module _ {x : Context} {routes : List ℕ} {time : ChainTime} {rest : List ℕ} 
     where
       go : (q : Bool) → ltb offset (first + n) ≡ q → Wrote write start.buffers.used out₀ out here (messages_read x routes time (rows 33 n rest) (silent (walk_told start)))
       go true l = turn_stop x routes time rest n write out₀ (walk_told start) out here at (first + n - offset) h.turn
-          (stopped_here (ltb-true offset (first + n) l) ∙ (ap (λ (q : Bool). eqb b.free 0 || q) (eq-eqb offset end (omega (arith, h.before, ee))) ∙ or_yes (eqb b.free 0)))
+          (stopped_here (ltb-true offset (first + n) l) ∙ (ap (λ (q : Bool). eqb b.free 0 || q) (eq-eqb offset end (omega (arith, h.before, ee))) ∙ or-true (eqb b.free 0)))
       go false l = let g = ltb-false offset (first + n) l in turn_none x routes time rest n write out₀ (walk_told start) out here at (first + n - offset) h.turn (omega arith)
 
   module _ (more : offset < end) where
@@ -282,7 +271,7 @@ module _ {x : Context} {routes : List ℕ} {time : ChainTime} {rest : List ℕ} 
     left = omega (arith, (locals_within x routes time rest n write out₀ start end ee).1)
 
     stopped_full_lem : stopped x here ≡ eqb b.free 0
-    stopped_full_lem = stopped_here left ∙ (ap (λ (q : Bool). eqb b.free 0 || q) (ne_eqb offset end (λ (q : offset ≡ end). omega arith)) ∙ or_no (eqb b.free 0))
+    stopped_full_lem = stopped_here left ∙ (ap (λ (q : Bool). eqb b.free 0 || q) (ne_eqb offset end (λ (q : offset ≡ end). omega arith)) ∙ or-false (eqb b.free 0))
 
     -- the walk is stopped where a buffer is full, as the loop tests it
     pub locals_full : b.free ≡ 0 → Wrote write start.buffers.used out₀ out here (messages_read x routes time (rows 33 n rest) (silent (walk_told start)))

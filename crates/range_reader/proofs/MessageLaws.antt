@@ -2,15 +2,14 @@
 use Prim.Native.Nat.{ℕ, suc, zero, ◌+◌, ◌-◌, ◌*◌, ◌/◌, ◌^◌, ◌≤◌, ◌<◌}
 use mathlib.Core.Path.{◌≡◌, refl, sym, ap, subst, ◌∙◌}
 use mathlib.Core.Bool.{Bool, true, false}
-use mathlib.Core.List.{List, [], ◌∷◌, ◌++◌}
+use mathlib.Core.List.{List, [], ◌++◌}
 use native.Mathlib.Omega.{arith}
 use lib.ListN.{length, get_or, take, drop, length-append, length-take}
 use lib.Seq.{sets, length-sets, take-take, drop-drop}
 use Rattle.std.proofs.lemmas.List.{drop-take}
-use native.Mathlib.Nat.{add-div_left}
 use Rattle.std.proofs.Math.Seq.{take-append_seam, drop-append_seam}
 use Rattle.rows.specs.Rows.{pick, rows, whole_rows}
-use Rattle.rows.proofs.Laws.{sets_append, pick_yes, pick_no, rows_cons, pick_same}
+use Rattle.rows.proofs.Laws.{sets_append, pick_yes, pick_no, rows_cons, pick_same, whole_cons}
 use Rattle.ext_types.specs.declared.ChainTime.{ChainTime}
 use Rattle.shard_ident.specs.Shard.{is_ours}
 use Rattle.shard_ident.specs.declared.ShardIdent.{ShardIdent}
@@ -149,15 +148,6 @@ chunk_first rest at k m next e w =
     )
 
 -- ---- an expired anchor's messages
--- the whole rows of bytes whose first row is known
-whole_cons : (w : ℕ) (row l : List ℕ) → 0 < w → length row ≡ w → whole_rows w (row ++ l) ≡ row ∷ whole_rows w l
-unfolding rows
-whole_cons w row l some e =
-    let n : length (row ++ l) / w ≡ suc (length l / w) = rw (length-append row l, e) (omega (arith, add-div_left (length l) some)) in
-    let t : take w (row ++ l) ≡ row = rw (sym e) (take-append_seam row l) in
-    let d : drop w (row ++ l) ≡ l = rw (sym e) (drop-append_seam row l) in
-    rw (n, t, d)
-
 module _ (shard : ShardIdent) (routes : List ℕ) where
   -- what the loop over them keeps; `left` are the bytes that are left
   pub record Counted (rest counts₀ counts left : List ℕ) : Type 0 where
@@ -173,9 +163,6 @@ module _ (shard : ShardIdent) (routes : List ℕ) where
     module _ (m next : List ℕ) (e : left ≡ m ++ next) (w : length m ≡ 33) where
       one_less : length left / 33 ≡ length next / 33 + 1
       one_less = rw (e, length-append m next, w) (omega arith)
-
-      pub counted_room : (p : ℕ) → get_or counts p 0 < max_messages
-      counted_room p = omega (arith, h.few, one_less, h.small p)
 
       counted_next : (new : List ℕ) → new ≡ expired_one shard routes m counts → Counted rest counts₀ new next
       unfolding expired_over

@@ -8,7 +8,6 @@ use lib.Dec.{leb}
 use lib.ListN.{length}
 use borrow.Author.Tests.{le-leb, lt-ltb}
 use Rattle.std.specs.List.{list_all}
-use Rattle.std.proofs.lemmas.List.{get_or_past}
 use Rattle.messages_buffer.proofs.Laws.{all_is_every}
 use Rattle.rows.proofs.Laws.{told_yes, told_no, no_here}
 use Rattle.ext_types.specs.declared.ExternalKey.{ExternalKey}
@@ -24,7 +23,7 @@ use Rattle.anchors_cache.proofs.Laws.{rows_of_messages, anchors_cons, anchors_no
 use Rattle.range_rules.specs.declared.Context.{Context}
 use Rattle.range_rules.specs.Walks.{RangeRead}
 use Rattle.range_rules.specs.declared.ProcessedTo.{ProcessedTo}
-use Rattle.range_rules.specs.Rules.{silent, no_processed, offset_in, anchors_read, entry_len}
+use Rattle.range_rules.specs.Rules.{silent, offset_in, anchors_read, entry_len}
 use Rattle.range_rules.specs.Refusals.{is_open, route_open, all_open, starts_within, all_fit, cannot_refuse}
 
 -- ---- on the window
@@ -33,10 +32,6 @@ module _ (x : Context) (routes bytes : List ℕ) (l : List Row) (r : RangeRead) 
   no_refusal_on_the_window n u e = no_refusal x routes (with_messages bytes l) r n u (rw (rows_of_messages bytes l) e)
 
 -- ---- the routes
--- past the last partition none is open
-pub past_is_closed : (processed : List ProcessedTo) (partitions : List ExternalsPartitionRangeReaderState) (p : ℕ) → length processed ≤ p → is_open processed partitions p ≡ false
-past_is_closed processed partitions p h = rw (get_or_past processed p no_processed h)
-
 pub open_of_all : (processed : List ProcessedTo) (partitions : List ExternalsPartitionRangeReaderState) (routes : List ℕ)
     → (is_open processed partitions 0 && list_all (route_open processed partitions) (route_rows routes)) ≡ all_open processed partitions routes
 unfolding all_open

@@ -9,8 +9,8 @@ use Rattle.shard_ident.specs.Shard.{is_shard}
 use Rattle.router.specs.Router.{routes_number}
 use Rattle.anchors_cache.specs.declared.AnchorsCache.{AnchorsCache}
 use Rattle.anchors_cache.specs.declared.CachedAnchor.{CachedAnchor}
-use Rattle.cache_rules.specs.Rules.{total, max_anchors}
-use Rattle.anchors_cache.specs.Tables.{anchors_of, with_messages, tables_bytes}
+use Rattle.cache_rules.specs.Rules.{total, max_anchors, max_messages}
+use Rattle.anchors_cache.specs.Tables.{anchors, anchors_of, with_messages, tables_bytes}
 use Rattle.range_rules.specs.declared.Context.{Context}
 use Rattle.range_rules.specs.Walks.{Walk, RangeRead}
 use Rattle.range_rules.specs.Rules.{Outcome, anchors_read}
@@ -64,6 +64,10 @@ pub record Eight (w : Walk) : Type 0 where
   pub read : length w.counts.read ≡ 8
   pub expired : length w.counts.expired ≡ 8
   pub buffered : length w.counts.buffered ≡ 8
+
+-- a window that stands in its table, with at most as many messages as the cache holds
+abbrev pub Windowed : List ℕ → ℕ → ℕ → Type 0
+Windowed tables first len = (first + len ≤ max_anchors) × (tables_bytes ≤ length tables) × (total (anchors first len tables) ≤ max_messages)
 
 pub record AnchorReady (x : Context) (routes area : List ℕ) (a : CachedAnchor) (r : CodeRead) (out : List ℕ) : Type 0 where
   pub fixed : Ready x routes out

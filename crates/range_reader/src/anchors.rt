@@ -1,22 +1,22 @@
 // The range's read over the cached anchors. The cache is seen by index; the pops are counted.
 ghost use Rattle.std.specs.Prelude.{◌≡◌, ◌&&◌, ◌+◌, ◌*◌, ◌<◌, ◌≤◌, length, drop};
 ghost use Rattle.rows.specs.Rows.{rows};
-ghost use Rattle.router.specs.Router.{routes_number};
-ghost use Rattle.cache_rules.specs.Rules.{total, max_anchors, max_messages};
+ghost use Rattle.cache_rules.specs.Rules.{max_anchors};
 ghost use Rattle.anchors_cache.specs.Tables.{anchors, anchors_of, tables_bytes};
 ghost use Rattle.anchors_cache.specs.Calls.{anchor_found};
 ghost use Rattle.range_rules.specs.Rules.{offset_in, looked, expired, finished, anchor_read};
 ghost use Rattle.range_rules.specs.Refusals.{cannot_refuse};
-ghost use Rattle.range_reader.specs.Ready.{AnchorReady, RangeReady, Tells, walk_told, range_told, range_tells, left_by, first_unread, whole_window_read, read_or_refused};
+ghost use Rattle.range_reader.specs.Ready.{AnchorReady, RangeReady, Tells, Windowed, walk_told, range_told, range_tells, left_by, first_unread, whole_window_read, read_or_refused};
 
-use crate::{RangeRead, Walk, halfway, messages};
+use crate::{Lent, RangeRead, Walk, halfway, messages};
 use anchors_cache::{AnchorsCache, CachedAnchor};
 use ext_types::{ChainTime, ExternalKey};
 use range_rules::Context;
 use refusals::Refusal;
-use router::MESSAGE_LEN;
+use rows::MESSAGE_LEN;
 
 // The front of the `left` anchors from index `at` on.
+#[tactic(auto, using(anchors_cache::proofs::Laws::anchors_none, anchors_cache::proofs::Laws::anchors_cons, std::proofs::lemmas::Bool::Decides::nat_tests), unfolding(anchors_cache::specs::Calls::row_at))]
 fn front_anchor(tables: &[u8], at: usize, left: usize, place: usize) -> Option<CachedAnchor>
     requires { (at + left ≤ max_anchors) × (tables_bytes ≤ length tables.now) }
     ensures { result ≡ anchor_found place (anchors at left tables.now) }
@@ -27,7 +27,8 @@ fn front_anchor(tables: &[u8], at: usize, left: usize, place: usize) -> Option<C
     Some(anchors_cache::cached_row(tables, at, place))
 }
 
-fn offset_in(position: ExternalKey, id: u32) -> u64
+// The position's offset in an anchor.
+pub(crate) fn offset_in(position: ExternalKey, id: u32) -> u64
     ensures { result ≡ offset_in position id }
 {
     if position.anchor_id == id {
@@ -54,10 +55,7 @@ fn look(x: Context, id: u32, w: &mut Walk)
 fn first_unread(offset: u64, count: usize) -> usize
     ensures { (result ≡ first_unread offset count) × (result ≤ count) × (offset ≤ count → result ≡ offset) }
 {
-    if offset < count as u64 {
-        return offset as usize;
-    }
-    count
+    offset.min(count as u64) as usize
 }
 
 // Step 4, where the messages are counted: the position is (id, offset), not the anchor's end.
@@ -95,19 +93,18 @@ fn finish(x: Context, time: ChainTime, count: usize, r: &mut RangeRead) -> Resul
     Ok(())
 }
 
-// One look at the front anchor. The read is changed in place, so that none of it is copied for an anchor; a refused one
-// is of no use.
+// One look at the front anchor. The read is changed in place; a refused one is of no use.
+// Not a `Result` of the read by value (tried, slower): that copied it for each anchor, 106,782 instructions for 98,389.
 fn anchor_read(
+    lent: Lent<'_>,
     x: Context,
-    routes: &[u8],
-    area: &[u8],
     a: CachedAnchor,
     write: bool,
     r: &mut RangeRead,
     out: &mut [u8],
 ) -> Result<(), Refusal>
-    requires { AnchorReady x routes.now area.now a r.old out.old }
-    ensures { Tells write r.old.walk.buffers.used out.old out.new (range_tells (left_by result r.new)) (anchor_read x routes.now a.id a.chain_time (rows 33 a.count (drop (33 * a.place) area.now)) (range_told r.old)) }
+    requires { AnchorReady x lent.routes.now lent.area.now a r.old out.old }
+    ensures { Tells write r.old.walk.buffers.used out.old out.new (range_tells (left_by result r.new)) (anchor_read x lent.entry.routes.now a.id a.chain_time (rows 33 a.count (drop (33 * a.place) lent.entry.area.now)) (range_told r.old)) }
 {
     // Step 2.
     if a.id < x.position.anchor_id {
@@ -117,44 +114,42 @@ fn anchor_read(
     look(x, a.id, &mut r.walk);
     let offset = r.walk.place.key.msgs_offset;
     let from = first_unread(offset, a.count);
-    let rest = &area[MESSAGE_LEN * (a.place + from)..MESSAGE_LEN * (a.place + a.count)];
+    let rest = &lent.area[MESSAGE_LEN * (a.place + from)..MESSAGE_LEN * (a.place + a.count)];
     if ext_types::is_expired(x.chain_time, a.chain_time, x.limit) {
-        messages::count_expired(x.shard, routes, rest, &mut r.walk.counts.expired);
+        messages::count_expired(x.shard, lent.routes, rest, &mut r.walk.counts.expired);
         expire(x, a.chain_time, r);
         return Ok(());
     }
     // Past the end no message is left, and the offset may be any 64 bits.
     if offset <= a.count as u64 {
-        messages::messages_read(x, routes, a.chain_time, rest, write, &mut r.walk, out)?;
+        messages::messages_read(x, lent.routes, a.chain_time, rest, write, &mut r.walk, out)?;
     }
     finish(x, a.chain_time, a.count, r)
 }
 
-// The front anchor again and again, until the read ends.
+// The front anchor again and again, until the read ends. `loop` with `let .. else`: document 01 names the form.
 fn anchors_read(
-    tables: &[u8],
-    area: &[u8],
+    lent: Lent<'_>,
     c: AnchorsCache,
-    routes: &[u8],
     x: Context,
     write: bool,
     r: &mut RangeRead,
     out: &mut [u8],
 ) -> Result<(), Refusal>
-    requires { RangeReady tables.now area.now c routes.now x r.old out.old }
-    ensures { Tells write r.old.walk.buffers.used out.old out.new (range_tells (left_by result r.new)) (whole_window_read x routes.now tables.now area.now c r.old) }
+    requires { RangeReady lent.tables.now lent.area.now c lent.routes.now x r.old out.old }
+    ensures { Tells write r.old.walk.buffers.used out.old out.new (range_tells (left_by result r.new)) (whole_window_read x lent.entry.routes.now lent.entry.tables.now lent.entry.area.now c r.old) }
 {
     let mut at = c.first;
     let mut left = c.len;
     let mut place = c.base;
     loop {
         // Step 1.
-        let Some(a) = front_anchor(tables, at, left, place) else {
+        let Some(a) = front_anchor(lent.tables, at, left, place) else {
             r.fully_read = true;
             r.ended = true;
             return Ok(());
         };
-        anchor_read(x, routes, area, a, write, &mut *r, &mut *out)?;
+        anchor_read(lent, x, a, write, &mut *r, &mut *out)?;
         if r.ended {
             return Ok(());
         }
@@ -166,44 +161,41 @@ fn anchors_read(
 
 // Where no question can refuse the read half-way, it is written at once.
 fn writes_at_once(
-    tables: &[u8],
+    lent: Lent<'_>,
     c: AnchorsCache,
-    routes: &[u8],
     x: Context,
     begin: RangeRead,
     write: bool,
 ) -> bool
-    requires { (c.first + c.len ≤ max_anchors) × (tables_bytes ≤ length tables.now) × (total (anchors_of tables.now c) ≤ max_messages) × (routes_number routes.now ≡ 0) }
-    ensures { result ≡ (write && cannot_refuse x begin.walk.buffers.by_partitions routes.now (anchors_of tables.now c)) }
+    requires { Windowed lent.tables.now c.first c.len }
+    ensures { result ≡ (write && cannot_refuse x begin.walk.buffers.by_partitions lent.entry.routes.now (anchors_of lent.entry.tables.now c)) }
 {
-    write && halfway::cannot_refuse(tables, c, routes, x, begin.walk.buffers.by_partitions)
+    write && halfway::cannot_refuse(lent, c, x, begin.walk.buffers.by_partitions)
 }
 
 // First without writing, unless it is certain that the read is not refused; where that run is not refused and `write`
 // is set, once more with writing.
 pub(crate) fn read_or_refuse(
-    tables: &[u8],
-    area: &[u8],
+    lent: Lent<'_>,
     c: AnchorsCache,
-    routes: &[u8],
     x: Context,
     begin: RangeRead,
     write: bool,
     out: &mut [u8],
 ) -> Result<RangeRead, Refusal>
-    requires { RangeReady tables.now area.now c routes.now x begin out.old }
-    ensures { (range_tells result (read_or_refused write out.old begin.walk.buffers.used (whole_window_read x routes.now tables.now area.now c begin)).value)
-        × (out.new ≡ (read_or_refused write out.old begin.walk.buffers.used (whole_window_read x routes.now tables.now area.now c begin)).entries) }
+    requires { RangeReady lent.tables.now lent.area.now c lent.routes.now x begin out.old }
+    ensures { (range_tells result (read_or_refused write out.old begin.walk.buffers.used (whole_window_read x lent.entry.routes.now lent.entry.tables.now lent.entry.area.now c begin)).value)
+        × (out.new ≡ (read_or_refused write out.old begin.walk.buffers.used (whole_window_read x lent.entry.routes.now lent.entry.tables.now lent.entry.area.now c begin)).entries) }
 {
     let mut r = begin;
-    if writes_at_once(tables, c, routes, x, begin, write) {
-        anchors_read(tables, area, c, routes, x, true, &mut r, out)?;
+    if writes_at_once(lent, c, x, begin, write) {
+        anchors_read(lent, c, x, true, &mut r, out)?;
         return Ok(r);
     }
-    anchors_read(tables, area, c, routes, x, false, &mut r, &mut *out)?;
+    anchors_read(lent, c, x, false, &mut r, &mut *out)?;
     if write {
         r = begin;
-        anchors_read(tables, area, c, routes, x, true, &mut r, out)?;
+        anchors_read(lent, c, x, true, &mut r, out)?;
     }
     Ok(r)
 }

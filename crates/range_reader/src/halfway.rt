@@ -1,16 +1,18 @@
 // Whether it is certain at entry that no question refuses the read half-way: then no run is needed that only decides
 // that.
-ghost use Rattle.std.specs.Prelude.{◌≡◌, ◌+◌, ◌≤◌, leb, length};
-ghost use Rattle.cache_rules.specs.Rules.{total, max_anchors, max_messages};
-ghost use Rattle.anchors_cache.specs.Tables.{anchors, anchors_of, tables_bytes};
+ghost use Rattle.std.specs.Prelude.{◌≡◌, leb};
+ghost use Rattle.anchors_cache.specs.Tables.{anchors, anchors_of};
 ghost use Rattle.range_rules.specs.Rules.{offset_in};
 ghost use Rattle.range_rules.specs.Refusals.{is_open, all_open, all_fit, cannot_refuse};
+ghost use Rattle.range_reader.specs.Ready.{Windowed};
 
+use crate::{Lent, anchors};
 use anchors_cache::AnchorsCache;
 use ext_types::ExternalKey;
 use messages_buffer::ExternalsPartitionRangeReaderState;
 use range_rules::{Context, ENTRY_LEN, ProcessedTo};
-use router::{MESSAGE_LEN, ROUTE_LEN};
+use router::ROUTE_LEN;
+use rows::MESSAGE_LEN;
 
 // Questions 12 and 13, for a partition; past the last one there is none.
 fn is_open(
@@ -45,12 +47,13 @@ fn all_open(
 fn starts_within(position: ExternalKey, id: u32, count: usize) -> bool
     ensures { result ≡ leb (offset_in position id) count }
 {
-    position.anchor_id != id || position.msgs_offset <= count as u64
+    anchors::offset_in(position, id) <= count as u64
 }
 
 // Questions 11 and 14, for every anchor of the window.
+#[tactic(auto, using(crate::proofs::RefusalLaws::fit_end))]
 fn all_fit(tables: &[u8], first: usize, len: usize, position: ExternalKey, room: usize) -> bool
-    requires { (first + len ≤ max_anchors) × (tables_bytes ≤ length tables.now) × (total (anchors first len tables.now) ≤ max_messages) }
+    requires { Windowed tables.now first len }
     ensures { result ≡ all_fit position room (anchors first len tables.now) }
 {
     let mut sum = 0;
@@ -66,15 +69,14 @@ fn all_fit(tables: &[u8], first: usize, len: usize, position: ExternalKey, room:
 
 #[tactic(auto, using(std::proofs::lemmas::Bool::Decides::nat_tests), unfolding(range_rules::specs::Refusals::cannot_refuse))]
 pub(crate) fn cannot_refuse(
-    tables: &[u8],
+    lent: Lent<'_>,
     c: AnchorsCache,
-    routes: &[u8],
     x: Context,
     partitions: [ExternalsPartitionRangeReaderState; 8],
 ) -> bool
-    requires { (c.first + c.len ≤ max_anchors) × (tables_bytes ≤ length tables.now) × (total (anchors_of tables.now c) ≤ max_messages) }
-    ensures { result ≡ cannot_refuse x partitions routes.now (anchors_of tables.now c) }
+    requires { Windowed lent.tables.now c.first c.len }
+    ensures { result ≡ cannot_refuse x partitions lent.entry.routes.now (anchors_of lent.entry.tables.now c) }
 {
-    all_open(routes, &x.processed, &partitions)
-        && all_fit(tables, c.first, c.len, x.position, x.room)
+    all_open(lent.routes, &x.processed, &partitions)
+        && all_fit(lent.tables, c.first, c.len, x.position, x.room)
 }

@@ -1,9 +1,12 @@
 // One range's read of externals: document 01's six steps over the cached anchors.
 // A refused read answers why and leaves transaction, range and every output byte as at entry.
+// Arrays of a struct go to another one by a local: a field that is an array can't be moved out beside the others
+// (tried: the borrow checker refuses it).
 #![tactic(auto)]
 
 ghost use Rattle.std.specs.Prelude.{Ok, ◌≡◌};
 ghost use Rattle.range_reader.specs.Ready.{range_told};
+ghost use Rattle.range_reader.specs.Locals.{progress_of};
 ghost use Rattle.range_reader.specs.Calls.{read_call, check_call, read_or_check_call, read_answer_of, done_answer};
 ghost use Rattle.range_rules.specs.Rules.{context_of, entry_of};
 
@@ -31,6 +34,14 @@ pub struct RangeSettings {
     pub processed: [ProcessedTo; 8],
     pub timeout: Seconds,
     pub mode: ReadNextExternalsMode,
+}
+
+// The bytes that a read is lent: the host's tables, the messages' area and the routes.
+#[derive(Clone, Copy)]
+pub struct Lent<'a> {
+    pub tables: &'a [u8],
+    pub area: &'a [u8],
+    pub routes: &'a [u8],
 }
 
 // `free` is the fewest free places of the range's buffers at the read's end, 0 where one is full; `pops` anchors went
@@ -80,11 +91,22 @@ pub struct Progress {
     pub used: usize,
 }
 
+impl From<Buffers> for Progress {
+    ghost from_gives = { λ b p. p ≡ progress_of b };
+
+    fn from(b: Buffers) -> Progress {
+        Progress {
+            free: b.free,
+            used: b.used,
+        }
+    }
+}
+
 // The fields of an output entry.
 #[derive(Clone, Copy, Debug, PartialEq, Eq)]
 pub struct Entry {
     pub seqno: u32,
-    pub partition: usize,
+    pub partition: u16,
     pub key: ExternalKey,
     pub time: ChainTime,
 }
@@ -167,54 +189,49 @@ fn done_answer(
     }
 }
 
-// The answer of a read, which is written where `write` is set.
-fn read_or_check(
-    tables: &[u8],
-    area: &[u8],
+// Either of the two calls below: the entries are written where `write` is set.
+// A flag, no closure (no plainer): one walk makes both runs, and each function of it lends the output on.
+pub fn read_or_check(
+    lent: Lent<'_>,
     t: AnchorsCacheTransaction,
-    routes: &[u8],
     settings: RangeSettings,
     range: ExternalsRangeReaderState,
     write: bool,
     out: &mut [u8],
 ) -> Result<ReadExternals, Refusal>
-    ensures { record { answer = read_answer_of range t result; out = out.new } ≡ read_or_check_call write tables.now area.now t settings.shard routes.now settings.limits settings.processed settings.timeout settings.mode range out.old }
+    ensures { record { answer = read_answer_of range t result; out = out.new } ≡ read_or_check_call write lent.entry.tables.now lent.entry.area.now t settings.shard lent.entry.routes.now settings.limits settings.processed settings.timeout settings.mode range out.old }
 {
-    let free = questions::asked(tables, area, t, routes, settings, range)?;
+    let free = questions::asked(lent, t, settings, range)?;
     let x = context_of(settings, range, out.len());
     let start = at_entry(range, free);
-    let r = anchors::read_or_refuse(tables, area, t.cache, routes, x, start, write, out)?;
-    let state = anchors_cache::pop_fronts(tables, area, t, r.pops)?;
+    let r = anchors::read_or_refuse(lent, t.cache, x, start, write, out)?;
+    let state = anchors_cache::pop_fronts(lent.tables, lent.area, t, r.pops)?;
     Ok(done_answer(range, r, state))
 }
 
 // One range's read. Where a question could refuse it half-way, a first run that writes nothing decides, so that a
 // refusal leaves the output as it is.
 pub fn read_externals_into_buffers(
-    tables: &[u8],
-    area: &[u8],
+    lent: Lent<'_>,
     t: AnchorsCacheTransaction,
-    routes: &[u8],
     settings: RangeSettings,
     range: ExternalsRangeReaderState,
     out: &mut [u8],
 ) -> Result<ReadExternals, Refusal>
-    ensures { record { answer = read_answer_of range t result; out = out.new } ≡ read_call tables.now area.now t settings.shard routes.now settings.limits settings.processed settings.timeout settings.mode range out.old }
+    ensures { record { answer = read_answer_of range t result; out = out.new } ≡ read_call lent.entry.tables.now lent.entry.area.now t settings.shard lent.entry.routes.now settings.limits settings.processed settings.timeout settings.mode range out.old }
 {
-    read_or_check(tables, area, t, routes, settings, range, true, out)
+    read_or_check(lent, t, settings, range, true, out)
 }
 
 // What the read would answer; nothing is written.
 pub fn check_read_externals(
-    tables: &[u8],
-    area: &[u8],
+    lent: Lent<'_>,
     t: AnchorsCacheTransaction,
-    routes: &[u8],
     settings: RangeSettings,
     range: ExternalsRangeReaderState,
     out: &mut [u8],
 ) -> Result<ReadExternals, Refusal>
-    ensures { record { answer = read_answer_of range t result; out = out.new } ≡ check_call tables.now area.now t settings.shard routes.now settings.limits settings.processed settings.timeout settings.mode range out.old }
+    ensures { record { answer = read_answer_of range t result; out = out.new } ≡ check_call lent.entry.tables.now lent.entry.area.now t settings.shard lent.entry.routes.now settings.limits settings.processed settings.timeout settings.mode range out.old }
 {
-    read_or_check(tables, area, t, routes, settings, range, false, out)
+    read_or_check(lent, t, settings, range, false, out)
 }

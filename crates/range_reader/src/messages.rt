@@ -9,17 +9,15 @@ ghost use Rattle.range_rules.specs.Rules.{end_reached, raised, moved_to, key_at,
 ghost use Rattle.range_rules.specs.WalkEnd.{saved_end_before, walk_end};
 ghost use Rattle.range_reader.specs.Ready.{Ready, Tells, Eight, walk_told, walk_tells, left_by};
 ghost use Rattle.range_rules.specs.Bounds.{Few};
-ghost use Rattle.range_reader.specs.Locals.{verdict_told, numbered, place_at, progress_of, walk_of, entry_at, bytes_of, verdict_at, grown, taken, entries_of};
+ghost use Rattle.range_reader.specs.Locals.{verdict_told, numbered, place_at, walk_of, entry_at, bytes_of, verdict_at, grown, taken, entries_of};
 ghost use Rattle.cache_rules.specs.Rules.{max_messages};
 
 use crate::{Entry, Progress, Taken, Verdict, Walk};
 use ext_types::{ChainTime, ExternalKey};
 use messages_buffer::ExternalsPartitionRangeReaderState;
-use range_rules::{
-    Buffers, Context, ENTRY_LEN, Place, ProcessedTo, ReadCounts, ReadNextExternalsMode,
-};
+use range_rules::{Context, ENTRY_LEN, Place, ProcessedTo, ReadCounts, ReadNextExternalsMode};
 use refusals::Refusal;
-use router::MESSAGE_LEN;
+use rows::MESSAGE_LEN;
 use shard_ident::ShardIdent;
 
 #[tactic(auto, using(std::proofs::lemmas::Bool::Decides::nat_tests, ext_types::proofs::Order::same_is_equal))]
@@ -59,6 +57,7 @@ fn key_at(id: u32, offset: u16) -> ExternalKey
 }
 
 // The place at an offset of the anchor: the one before the first message, or moved behind the last one read.
+#[tactic(auto, using(std::proofs::lemmas::Bool::Decides::nat_tests), unfolding(crate::specs::Locals::place_at))]
 fn place_at(end: ExternalKey, place: Place, offset: u16) -> Place
     ensures { result ≡ place_at end place offset }
 {
@@ -106,6 +105,8 @@ fn walk_end(mode: ReadNextExternalsMode, end: ExternalKey, key: ExternalKey, las
     }
 }
 
+// `unwrap_or` drops a refusal (no plainer): question 2 has been asked already, so there is none.
+#[tactic(auto, using(shard_ident::proofs::Laws::accepted))]
 fn is_ours(shard: ShardIdent, m: &[u8]) -> bool
     requires { is_shard shard ≡ true }
     ensures { result ≡ is_ours shard m.now }
@@ -114,6 +115,7 @@ fn is_ours(shard: ShardIdent, m: &[u8]) -> bool
 }
 
 // Question 3 has been asked already.
+#[tactic(auto, using(router::proofs::Laws::a_partition_is_at_most_7))]
 fn partition_of(routes: &[u8], m: &[u8]) -> usize
     requires { routes_number routes.now ≡ 0 }
     ensures { (result ≡ partition_of routes.now m.now) × (result < 8) }
@@ -162,7 +164,7 @@ fn buffered(limit: u16, partition: ExternalsPartitionRangeReaderState, b: Progre
     }
 }
 
-fn entry_at(seqno: u32, partition: usize, id: u32, offset: u16, time: ChainTime) -> Entry
+fn entry_at(seqno: u32, partition: u16, id: u32, offset: u16, time: ChainTime) -> Entry
     ensures { result ≡ entry_at seqno partition id offset time }
 {
     Entry {
@@ -179,11 +181,11 @@ fn put_entry(out: &mut [u8], at: usize, e: Entry)
     ensures { out.new ≡ sets out.old at (bytes_of e) }
 {
     let row = &mut out[at..at + ENTRY_LEN];
-    rows::put_le(&mut *row, 0, e.seqno as u64, 4);
-    rows::put_le(&mut *row, 4, e.partition as u64, 2);
-    rows::put_le(&mut *row, 6, e.key.anchor_id as u64, 4);
-    rows::put_le(&mut *row, 10, e.key.msgs_offset, 8);
-    rows::put_le(&mut *row, 18, e.time.0, 8);
+    rows::put(&mut *row, 0, e.seqno);
+    rows::put(&mut *row, 4, e.partition);
+    rows::put(&mut *row, 6, e.key.anchor_id);
+    rows::put(&mut *row, 10, e.key.msgs_offset);
+    rows::put(&mut *row, 18, e.time.0);
 }
 
 // An entry, where the run writes.
@@ -197,6 +199,9 @@ fn put_if(write: bool, out: &mut [u8], at: usize, e: Entry)
 }
 
 // A message of ours: what becomes of it, and its entry.
+// Eight parameters and not the context by value (tried, slower): that made a read of 1,024 messages 172,839
+// instructions in place of 132,198.
+#[tactic(auto, using(range_rules::proofs::Counts::judge_buffer, crate::proofs::LocalLaws::no_entry, std::proofs::lemmas::Bool::Decides::nat_tests), unfolding(crate::specs::Locals::taken, crate::specs::Locals::entries_of))]
 fn our_read(
     e: Entry,
     processed: ProcessedTo,
@@ -224,17 +229,10 @@ fn our_read(
     }
 }
 
-fn progress_of(b: Buffers) -> Progress
-    ensures { result ≡ progress_of b }
-{
-    Progress {
-        free: b.free,
-        used: b.used,
-    }
-}
-
-// The messages of the rest of an anchor, in order, until the walk is stopped. The walk's arrays are changed in place; its
-// place follows from the offset, which 16 bits hold as far as there are messages.
+// The messages of the rest of an anchor, in order, until the walk is stopped. The walk's arrays are changed in place;
+// its place follows from the offset, which 16 bits hold as far as there are messages.
+// Longer than 40 lines (no plainer): a function for one message would be handed the walk's three arrays, its offset
+// and progress, and every parameter but `w`, again for each message.
 pub(crate) fn messages_read(
     x: Context,
     routes: &[u8],
@@ -251,7 +249,7 @@ pub(crate) fn messages_read(
     let last = first.msgs_offset + (rest.len() / MESSAGE_LEN) as u64;
     let end = walk_end(x.mode, x.saved_end, first, last) as u16;
     let mut offset = first.msgs_offset as u16;
-    let mut b = progress_of(w.buffers);
+    let mut b = Progress::from(w.buffers);
     let partitions = &mut w.buffers.by_partitions;
     let read = &mut w.counts.read;
     let buffered = &mut w.counts.buffered;
@@ -264,7 +262,7 @@ pub(crate) fn messages_read(
         offset += 1;
         if is_ours(x.shard, m) {
             let p = partition_of(routes, m);
-            let e = entry_at(x.seqno, p, first.anchor_id, offset, time);
+            let e = entry_at(x.seqno, p as u16, first.anchor_id, offset, time);
             let t = our_read(
                 e,
                 x.processed[p],
@@ -288,6 +286,7 @@ pub(crate) fn messages_read(
 }
 
 // The messages of ours among those of an expired anchor, counted per partition.
+#[tactic(auto, using(crate::proofs::MessageLaws::counted_end, crate::proofs::MessageLaws::counted_other, crate::proofs::MessageLaws::counted_ours, std::proofs::lemmas::Grind::common_steps))]
 pub(crate) fn count_expired(shard: ShardIdent, routes: &[u8], rest: &[u8], counts: &mut [u32; 8])
     requires { (is_shard shard ≡ true) × (routes_number routes.now ≡ 0) × (length rest.now / 33 ≤ max_messages) × ((i : ℕ) → get_or counts.old i 0 ≤ max_messages - length rest.now / 33) }
     ensures { counts.new ≡ expired_over shard routes.now (whole_rows 33 rest.now) counts.old }

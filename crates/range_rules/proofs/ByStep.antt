@@ -1,4 +1,6 @@
 -- Document 01's six steps, where they are easily misread: each law is a sentence of the paper about one step.
+use Rattle.std.proofs.lemmas.Bool.{or_from}
+use Rattle.std.proofs.Math.Bool.{or-false}
 use Rattle.std.specs.Prelude.{None}
 use Prim.Native.Nat.{ℕ, zero, suc, ◌+◌, ◌≤◌, ◌<◌}
 use mathlib.Core.Path.{◌≡◌, refl, sym, ap, ◌∙◌}
@@ -7,7 +9,7 @@ use mathlib.Core.List.{List, [], ◌∷◌}
 use native.Mathlib.Omega.{arith}
 use lib.Dec.{eqb, ltb}
 use borrow.Author.Tests.{eq-eqb, le-ltb, le-leb, lt-leb}
-use Rattle.rows.proofs.Laws.{pick_yes, pick_no, no_later, or_none}
+use Rattle.rows.proofs.Laws.{pick_yes, pick_no, no_later}
 use Rattle.ext_types.specs.declared.ChainTime.{ChainTime}
 use Rattle.ext_types.specs.declared.ExternalKey.{ExternalKey}
 use Rattle.ext_types.specs.Keys.{key_above, key_equal}
@@ -34,7 +36,7 @@ zeros = 0 ∷ 0 ∷ 0 ∷ 0 ∷ 0 ∷ 0 ∷ 0 ∷ 0 ∷ []
 -- `no_key` is where the first range of all begins
 pub no_key_is_below_the_first : (key : ExternalKey) → key_above no_key key ≡ false
 unfolding key_above
-no_key_is_below_the_first key = or_none _ _ (le-ltb key.anchor_id 0 (omega arith)) (sym (no_later (eqb 0 key.anchor_id) _ (le-ltb key.msgs_offset 0 (omega arith))))
+no_key_is_below_the_first key = or_from _ _ (le-ltb key.anchor_id 0 (omega arith)) (sym (no_later (eqb 0 key.anchor_id) _ (le-ltb key.msgs_offset 0 (omega arith))))
 
 -- "Fix the position and saved end at entry."
 module _ (shard : ShardIdent) (limits : List ℕ) (processed : List ProcessedTo) (timeout : Seconds) (mode : ReadNextExternalsMode) (range : ExternalsRangeReaderState) (room free : ℕ) where
@@ -175,11 +177,7 @@ pub to_the_end_only_a_full_buffer_stops_the_messages : (x : Context) (w : Walk) 
 unfolding stopped
 to_the_end_only_a_full_buffer_stops_the_messages x w n e =
     ap (λ (b : Bool). not b || (full w.buffers || ends x.mode w.place.reached)) (eq-eqb w.number 0 n)
-    ∙ (ap (λ (m : ReadNextExternalsMode). full w.buffers || ends m w.place.reached) e ∙ or_no (full w.buffers))
-  where
-    or_no : (b : Bool) → (b || false) ≡ b
-    or_no true = refl
-    or_no false = refl
+    ∙ (ap (λ (m : ReadNextExternalsMode). full w.buffers || ends m w.place.reached) e ∙ or-false (full w.buffers))
 
 -- questions 12, 13 and 14, in their order
 module _ (q : ProcessedTo) (partition : ExternalsPartitionRangeReaderState) (key : ExternalKey) (room : Bool) where

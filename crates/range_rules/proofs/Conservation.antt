@@ -144,10 +144,6 @@ module _ (x : Context) (time : ChainTime) (p : ℕ) (w : Walk) where
   after_counts Buffer above h e = (refl, (refl, rw h))
   after_counts (Refuse n) above h e = absurd (h e)
 
-advanced_counts : (x : Context) (w : Walk) → (advanced x w).counts ≡ w.counts
-unfolding advanced
-advanced_counts x w = refl
-
 module _ (x : Context) (routes : List ℕ) (time : ChainTime) where
   message_counts : (m : List ℕ) (w : Walk) → (message_read x routes time m w).value.number ≡ 0
       → ((message_read x routes time m w).value.counts.read ≡ expired_one x.shard routes m w.counts.read)

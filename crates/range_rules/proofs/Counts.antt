@@ -1,7 +1,8 @@
 -- Counts stay within a bound, and the used part of the output follows the entries.
+use Rattle.std.proofs.lemmas.Bool.{or_parts}
 use Prim.Native.Nat.{ℕ, suc, zero, ◌+◌, ◌≤◌, ◌<◌}
 use mathlib.Core.Path.{◌≡◌, refl, ap}
-use mathlib.Core.Bool.{Bool, true, false, not, ◌||◌}
+use mathlib.Core.Bool.{Bool, true, false, not}
 use mathlib.Core.List.{List, [], ◌∷◌}
 use native.Mathlib.Omega.{arith}
 use lib.Dec.{eqb}
@@ -21,7 +22,7 @@ use Rattle.range_rules.specs.declared.Context.{Context}
 use Rattle.range_rules.specs.declared.Buffers.{Buffers}
 use Rattle.range_rules.specs.Walks.{Walk, Verdict, Keep, Buffer, Refuse}
 use Rattle.range_rules.specs.declared.ProcessedTo.{ProcessedTo}
-use Rattle.range_rules.specs.Rules.{Outcome, silent, advanced, ends, full, stopped, judge, more, refused_with, read_one, buffered, buffer_one, entry_bytes, after, verdict_on, our_read, message_read, expired_one, entry_len}
+use Rattle.range_rules.specs.Rules.{Outcome, silent, advanced, full, stopped, judge, more, refused_with, read_one, buffered, buffer_one, entry_bytes, after, verdict_on, our_read, message_read, expired_one, entry_len}
 use Rattle.range_rules.specs.Bounds.{Within}
 
 -- ---- lists of counts
@@ -140,12 +141,7 @@ judge_buffer q partition key room = go q.present (key_above key q.key) partition
 -- a walk that is not stopped has no full buffer
 pub stopped_full : (x : Context) (w : Walk) → stopped x w ≡ false → full w.buffers ≡ false
 unfolding stopped
-stopped_full x w = go (not (eqb w.number 0)) (full w.buffers) (ends x.mode w.place.reached)
-  where
-    go : (a b c : Bool) → (a || (b || c)) ≡ false → b ≡ false
-    go true b c e = cc
-    go false true c e = e
-    go false false c e = refl
+stopped_full x w e = (or_parts (full w.buffers) _ (or_parts (not (eqb w.number 0)) _ e).1).0
 
 -- ---- one more in a buffer, where none is full
 module _ (limits : List ℕ) (b : Buffers) (p : ℕ) (l : length limits ≡ 8) (m : length b.by_partitions ≡ 8) (h : p < 8) (e : eqb (range_free limits b.by_partitions) 0 ≡ false) (q : (get_or b.by_partitions p no_partition).present ≡ true) where

@@ -1,5 +1,6 @@
 -- Document 01, question 11: "Does the walk move on?" It is answered "no" exactly in the one case in which the Rust
 -- loops forever.
+use Rattle.std.proofs.lemmas.Bool.{or_parts}
 use Prim.Native.Nat.{ℕ, ◌+◌, ◌-◌, ◌≤◌, ◌<◌}
 use mathlib.Core.Path.{◌≡◌, refl, sym, ap, ◌∙◌}
 use mathlib.Core.Bool.{Bool, true, false, not, ◌||◌}
@@ -138,12 +139,7 @@ own_anchor position id m = go (eqb position.anchor_id id) refl
 
 stopped_ends : (x : Context) (w : Walk) → stopped x w ≡ false → ends x.mode w.place.reached ≡ false
 unfolding stopped
-stopped_ends x w = go (not (eqb w.number 0)) (full w.buffers) (ends x.mode w.place.reached)
-  where
-    go : (a b c : Bool) → (a || (b || c)) ≡ false → c ≡ false
-    go true b c e = never e
-    go false true c e = never e
-    go false false c e = e
+stopped_ends x w e = (or_parts (full w.buffers) _ (or_parts (not (eqb w.number 0)) _ e).1).1
 
 module _ (x : Context) (routes : List ℕ) (id : ℕ) (time : ChainTime) (l : List (List ℕ)) (r : RangeRead) (zero : r.walk.number ≡ 0) where
   abbrev here : Walk

@@ -1,4 +1,5 @@
 -- Where `cannot_refuse` holds at entry, none of questions 11 to 14 refuses the read.
+use Rattle.std.proofs.lemmas.Bool.{and_parts}
 use Prim.Native.Nat.{ℕ, suc, zero, ◌+◌, ◌-◌, ◌*◌, ◌≤◌}
 use mathlib.Core.Path.{◌≡◌, refl, sym, ap, ◌∙◌}
 use mathlib.Core.Bool.{Bool, true, false, not, ◌&&◌, ◌||◌}
@@ -9,7 +10,7 @@ use lib.Dec.{eqb, ltb, leb}
 use lib.ListN.{length, get_or, length-drop}
 use borrow.Author.Tests.{eq-eqb, leb-true, le-leb}
 use Rattle.rows.specs.Rows.{pick, same_bytes}
-use Rattle.rows.proofs.Laws.{never, and_true, pick_both}
+use Rattle.rows.proofs.Laws.{never, pick_both}
 use Rattle.range_rules.proofs.Walks.{walk_all}
 use Rattle.ext_types.specs.declared.ChainTime.{ChainTime}
 use Rattle.ext_types.specs.declared.ExternalKey.{ExternalKey}
@@ -32,14 +33,14 @@ module _ (processed : List ProcessedTo) (partitions : List ExternalsPartitionRan
   unfolding first_partition every
   first_open m [] z e = z
   first_open m (r ∷ l) z e =
-      let t = and_true (route_open processed partitions r) (every (route_open processed partitions) l) e in
+      let t = and_parts (route_open processed partitions r) (every (route_open processed partitions) l) e in
       let P : ℕ → Type 0 = λ p. is_open processed partitions p ≡ true in
       pick_both P (same_bytes (address_of r) m) (route_partition_of r) (first_partition m l) t.0 (first_open m l z t.1)
 
   partition_open : (routes m : List ℕ) → all_open processed partitions routes ≡ true → is_open processed partitions (partition_of routes m) ≡ true
   unfolding partition_of all_open
   partition_open routes m e =
-      let t = and_true (is_open processed partitions 0) (every (route_open processed partitions) (route_rows routes)) e in
+      let t = and_parts (is_open processed partitions 0) (every (route_open processed partitions) (route_rows routes)) e in
       first_open m (route_rows routes) t.0 t.1
 
 put_present : (p q : ℕ) (l : List ExternalsPartitionRangeReaderState) → (get_or (one_put p l) q no_partition).present ≡ (get_or l q no_partition).present
@@ -163,7 +164,7 @@ module _ (x : Context) (routes : List ℕ) where
   unfolding anchors_read every total
   anchors_free [] s e h = h.number
   anchors_free (a ∷ l) s e h =
-      let f = and_true (starts_within x.position (row_of a)) (every (starts_within x.position) (map row_of l)) e in
+      let f = and_parts (starts_within x.position (row_of a)) (every (starts_within x.position) (map row_of l)) e in
       let i = leb-true (offset_in x.position a.id) (length a.messages) f.0 in
       let g = anchor_free a.id (record { 0 = a.time }) a.messages (total (map row_of l)) s.value i h in
       let t = next_read x routes a s in
@@ -174,8 +175,8 @@ module _ (x : Context) (routes : List ℕ) (l : List Anchor) (r : RangeRead) whe
   pub no_refusal : r.walk.number ≡ 0 → r.walk.buffers.used ≡ 0 → cannot_refuse x r.walk.buffers.by_partitions routes (map row_of l) ≡ true → (anchors_read x routes l (silent r)).value.walk.number ≡ 0
   unfolding cannot_refuse all_fit
   no_refusal n u e =
-      let t = and_true (all_open x.processed r.walk.buffers.by_partitions routes) (all_fit x.position x.room (map row_of l)) e in
-      let f = and_true (every (starts_within x.position) (map row_of l)) (leb (entry_len * total (map row_of l)) x.room) t.1 in
+      let t = and_parts (all_open x.processed r.walk.buffers.by_partitions routes) (all_fit x.position x.room (map row_of l)) e in
+      let f = and_parts (every (starts_within x.position) (map row_of l)) (leb (entry_len * total (map row_of l)) x.room) t.1 in
       let i = leb-true (entry_len * total (map row_of l)) x.room f.1 in
       anchors_free x routes l (silent r) f.0
       (record { number = n; open_to = λ m. partition_open x.processed r.walk.buffers.by_partitions routes m t.0; room = omega arith })

@@ -2,8 +2,8 @@
 // rules (proofs). Types that rules alone speak of stand in specs/Walks.
 #![tactic(auto)]
 
-use ext_types::{ChainTime, ExternalKey};
-use messages_buffer::ExternalsPartitionRangeReaderState;
+use ext_types::{ChainTime, ExternalKey, NO_KEY};
+use messages_buffer::{ExternalsPartitionRangeReaderState, NO_PARTITION};
 use shard_ident::ShardIdent;
 
 // Bytes of an output entry.
@@ -30,7 +30,7 @@ pub enum ReadNextExternalsMode {
     ToPreviuosReadTo,
 }
 
-// A partition's processed position, if it has one.
+// A partition's processed position, if it has one. A mark, no `Option`: C interface.
 #[repr(C)]
 #[derive(Clone, Copy, Debug, PartialEq, Eq)]
 pub struct ProcessedTo {
@@ -38,7 +38,7 @@ pub struct ProcessedTo {
     pub present: bool,
 }
 
-// Messages of ours per partition.
+// Messages of ours per partition. Three arrays, no array of structs: C interface.
 #[repr(C)]
 #[derive(Clone, Copy, Debug, PartialEq, Eq)]
 pub struct ReadCounts {
@@ -47,6 +47,17 @@ pub struct ReadCounts {
     pub buffered: [u32; 8],
 }
 
+// No range: no partition is marked, every number is 0.
+pub const NO_RANGE: ExternalsRangeReaderState = ExternalsRangeReaderState {
+    seqno: 0,
+    from: NO_KEY,
+    to: NO_KEY,
+    current_position: NO_KEY,
+    chain_time: ChainTime(0),
+    fully_read: false,
+    by_partitions: [NO_PARTITION; 8],
+};
+
 pub const NO_COUNTS: ReadCounts = ReadCounts {
     read: [0u32; 8],
     expired: [0u32; 8],
@@ -54,7 +65,7 @@ pub const NO_COUNTS: ReadCounts = ReadCounts {
 };
 
 // What a read fixes at entry. `saved_end` is document 01's saved end: the range's "to" as it is then. `room` is the
-// length of the lent output.
+// length of the lent output. `limits` beside `processed`: C interface, each comes as an array of its own.
 #[derive(Clone, Copy, Debug, PartialEq, Eq)]
 pub struct Context {
     pub shard: ShardIdent,

@@ -1,5 +1,6 @@
 -- What a read of all keeps: question 5 of its reader; and what it answers: the mark, numbers 10 to 14, sums within a
 -- cap.
+use Rattle.std.proofs.lemmas.Bool.{or_left}
 use Prim.Native.Nat.{ℕ, ◌≤◌}
 use mathlib.Core.Path.{◌≡◌, refl, sym, ap, subst, ◌∙◌}
 use mathlib.Core.Bool.{Bool, true, false, ◌||◌}
@@ -11,7 +12,7 @@ use lib.ListN.{length, take}
 use lib.Seq.{sets}
 use borrow.Author.Tests.{eqb-true, eqb-false}
 use Rattle.rows.specs.Rows.{pick}
-use Rattle.rows.proofs.Laws.{pick_both, or_here}
+use Rattle.rows.proofs.Laws.{pick_both}
 use Rattle.messages_buffer.specs.Fullness.{all_limited, limited_number, first_no}
 use Rattle.messages_buffer.proofs.Laws.{first_zero, first_alone}
 use Rattle.anchors_cache.specs.declared.AnchorsCacheTransaction.{AnchorsCacheTransaction}
@@ -146,7 +147,7 @@ module _ (tables area : List ℕ) (t : AnchorsCacheTransaction) (routes : List �
   pub the_mark_is_set_where_it_was_or_every_range_is_fully_read : length r.reader_state.ranges ≡ max_ranges
       → (let a = (read_all_call tables area t routes r mode out).answer in a.number ≡ 0 → a.reader.all_ranges_fully_read ≡ (r.all_ranges_fully_read || all_fully_read (held_ranges a.reader.reader_state)))
   unfolding all_ranges_read
-  the_mark_is_set_where_it_was_or_every_range_is_fully_read sixteen = answered P (λ z m y. m ∙ sym (or_here _ _ m)) (λ n y. absurd (n y)) (λ z m. go z m (eqb all.value.so_far.number 0) refl)
+  the_mark_is_set_where_it_was_or_every_range_is_fully_read sixteen = answered P (λ z m y. m ∙ sym (or_left _ _ m)) (λ n y. absurd (n y)) (λ z m. go z m (eqb all.value.so_far.number 0) refl)
     where
       P : ReadAllResult → Type 0
       P d = d.answer.number ≡ 0 → d.answer.reader.all_ranges_fully_read ≡ (r.all_ranges_fully_read || all_fully_read (held_ranges d.answer.reader.reader_state))

@@ -1,4 +1,5 @@
 -- What a read of all that answers 0 passed, told of the call's own answer: its counts, its reader and its cache.
+use Rattle.std.proofs.lemmas.Bool.{and_parts}
 use Prim.Native.Nat.{ℕ, ◌≤◌}
 use mathlib.Core.Path.{◌≡◌, refl, sym, ap, subst, ◌∙◌}
 use mathlib.Core.Bool.{Bool, true, false}
@@ -8,7 +9,7 @@ use lib.Dec.{eqb}
 use lib.ListN.{length}
 use borrow.Author.Tests.{eqb-true, eq-eqb}
 use Rattle.rows.specs.Rows.{pick}
-use Rattle.rows.proofs.Laws.{and_true, pick_yes, pick_no}
+use Rattle.rows.proofs.Laws.{pick_yes, pick_no}
 use Rattle.messages_buffer.proofs.Laws.{first_zero}
 use Rattle.router.specs.Router.{routes_number}
 use Rattle.cache_rules.specs.Rules.{Cache, ask, area_bytes}
@@ -78,7 +79,7 @@ module _ (tables area : List ℕ) (t : AnchorsCacheTransaction) (h : HandedAll) 
       let p6 = first_zero _ _ p5.1 in
       let f = refusal_zero (length area) tables t p5.0 in
       let a = active_of t.active p6.0 in
-      let b = and_true (valid_cache (places_in (length area)) tables t.cache) (pick t.active (valid_cache (places_in (length area)) tables t.undo) true) f.1 in
+      let b = and_parts (valid_cache (places_in (length area)) tables t.cache) (pick t.active (valid_cache (places_in (length area)) tables t.undo) true) f.1 in
       record { open_now = a; big = f.0; cache_ok = b.0; undo_ok = sym (pick_yes t.active _ _ a) ∙ b.1; routes_ok = p3.0; accepted = p5.0 }
 
   module _ (z : read.answer.number ≡ 0) (unread : h.reader.all_ranges_fully_read ≡ false) where

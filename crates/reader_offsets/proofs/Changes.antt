@@ -4,31 +4,30 @@ use mathlib.Core.Path.{◌≡◌, refl, sym, ap, ◌∙◌}
 use mathlib.Core.Bool.{Bool, true, false, ◌&&◌}
 use mathlib.Core.List.{List, [], ◌∷◌, ◌++◌, map}
 use native.Mathlib.Omega.{arith}
-use lib.Dec.{leb}
+use lib.Dec.{leb, ltb}
 use lib.ListN.{length, length-map, get_or, take, drop, set, length-set, length-drop, drop_of_length-le, get_or-eq_default}
 use lib.Seq.{take-set-lt, drop-set-lt, drop-cons, get_or-drop}
-use borrow.Author.Tests.{leb-true, leb-false, le-leb, lt-leb}
-use Rattle.rows.specs.Rows.{pick, part}
-use Rattle.rows.proofs.Laws.{pick_yes, pick_no, drop_take, yes_later, no_later}
+use borrow.Author.Tests.{ltb-true, ltb-false, leb-true, leb-false, le-leb, lt-leb}
+use Rattle.rows.specs.Rows.{pick}
+use Rattle.rows.proofs.Laws.{pick_yes, pick_no, yes_later, no_later}
 use Rattle.messages_buffer.specs.declared.ExternalsPartitionRangeReaderState.{ExternalsPartitionRangeReaderState}
 use Rattle.messages_buffer.specs.Fullness.{no_partition, partitions_number, buffer_cap}
 use Rattle.messages_buffer.proofs.Laws.{count_within}
 use Rattle.range_rules.specs.declared.ExternalsRangeReaderState.{ExternalsRangeReaderState}
 use Rattle.reader_rules.specs.declared.ExternalsPartitionReaderState.{ExternalsPartitionReaderState}
 use Rattle.reader_rules.specs.declared.ExternalsReader.{ExternalsReader}
-use Rattle.reader_rules.specs.State.{with_mark, no_range, held_ranges, state_number}
+use Rattle.reader_rules.specs.State.{with_mark, no_range, held_ranges, state_number, max_ranges}
+use Rattle.reader_rules.specs.declared.PartitionTest.TheVariants.{Reached}
 use Rattle.reader_rules.specs.declared.Tally.{Tally}
-use Rattle.reader_rules.specs.Offsets.{record_at, record_of, range_at, last_range, last_only, on_place, on_last, larger, no_tally, tallied, tally_from, tally_of, with_record, on_record, marked, raised_range, finalized, with_ranges, with_held}
+use Rattle.reader_rules.specs.Offsets.{record_at, record_of, range_at, last_range, last_only, on_place, on_last, place_of, with_count, meets, larger, no_tally, tallied, tally_from, tally_of, with_record, on_record, marked, raised_range, finalized, with_ranges, with_held}
 use Rattle.externals_reader.proofs.Sound.{sound_parts, sound_counts}
-use Rattle.reader_offsets.proofs.Held.{held_length, held_past, holds}
+use Rattle.reader_offsets.proofs.Numbers.{slots}
+use Rattle.reader_offsets.proofs.Held.{held_length, holds}
 
 -- ---- the last range
 module _ (xs : List ExternalsRangeReaderState) (len : ℕ) (fits : len ≤ length xs) where
   pub last_place : (at : ℕ) → at ≡ len - 1 → at ≡ length (take len xs) - 1
   last_place at e = rw (held_length xs len fits) e
-
-  pub last_part : (at : ℕ) → at ≡ len - 1 → part at (len - at) xs ≡ last_only (take len xs)
-  last_part at e = sym (ap (λ (k : ℕ). drop k (take len xs)) (sym (last_place at e)) ∙ drop_take at len xs)
 
   pub last_cons : 0 < len → last_only (take len xs) ≡ last_range (take len xs) ∷ []
   last_cons h =
@@ -36,16 +35,10 @@ module _ (xs : List ExternalsRangeReaderState) (len : ℕ) (fits : len ≤ lengt
       drop-cons (take len xs) (length (take len xs) - 1) no_range (omega (arith, n))
       ∙ ap (λ (m : List ExternalsRangeReaderState). last_range (take len xs) ∷ m) (drop_of_length-le (take len xs) {i = suc (length (take len xs) - 1)} (omega (arith, n)))
 
-  -- a partition that is present stands at a place with a range
-  pub present_inside : (i at : ℕ) → (record_of i (range_at at (take len xs))).present ≡ true → at < len
-  present_inside i at e = go (leb len at) refl
-    where
-      go : (b : Bool) → leb len at ≡ b → at < len
-      go true q =
-          absurd
-          (let z = sym e ∙ ap (λ (r : ExternalsRangeReaderState). (record_of i r).present) (held_past xs len fits at (leb-true len at q)) in
-          (let w : ◌≡◌ {A = ℕ} 0 1 = ap (λ (b : Bool). pick b 0 1) z in omega arith))
-      go false q = leb-false len at q
+-- where a partition is missing in a range, its offset counts as reached
+pub reached_absent : (p : ExternalsPartitionReaderState) (x : ExternalsPartitionRangeReaderState) → x.present ≡ false → meets Reached p x ≡ true
+unfolding meets
+reached_absent p x e = rw e
 
 -- ---- what a partition's counts add up to
 record_small : (t : Tally) (ps : List ExternalsPartitionRangeReaderState) (i : ℕ) → partitions_number ps ≡ 0 → (tallied t (record_at i ps)).count ≤ t.count + buffer_cap
@@ -78,35 +71,52 @@ tally_small i t (r ∷ l) h =
     let b = record_small t r.by_partitions i (h 0 (omega arith)) in
     omega (arith, a, b)
 
-module _ (s : ExternalsReader) (sound : state_number s.reader_state ≡ 0) (fits : s.reader_state.len ≤ length s.reader_state.ranges) where
-  counts : (j : ℕ) → j < length (held_ranges s.reader_state) → partitions_number (get_or (held_ranges s.reader_state) j no_range).by_partitions ≡ 0
-  counts = sound_counts 0 (held_ranges s.reader_state) (sound_parts s.reader_state sound).1
+module _ (s : ExternalsReader) (sound : 0 ≡ state_number s.reader_state) (whole : length s.reader_state.ranges ≡ max_ranges) where
+  few : s.reader_state.len ≤ max_ranges
+  few = slots s.reader_state sound
 
-  few : s.reader_state.len ≤ 16
-  few = (sound_parts s.reader_state sound).0
+  pub fits : s.reader_state.len ≤ length s.reader_state.ranges
+  fits = omega (arith, few, whole)
+
+  counts : (j : ℕ) → j < length (held_ranges s.reader_state) → partitions_number (get_or (held_ranges s.reader_state) j no_range).by_partitions ≡ 0
+  counts = sound_counts 0 (held_ranges s.reader_state) (sound_parts s.reader_state (sym sound)).1
 
   pub sum_fits : (i : ℕ) → (tally_of i (held_ranges s.reader_state)).count < 4294967296
   sum_fits i =
       let q = tally_small i no_tally (held_ranges s.reader_state) counts in
       omega (arith, q, few, held_length s.reader_state.ranges s.reader_state.len fits)
 
-  pub last_fits : (at : ℕ) → at ≡ s.reader_state.len - 1 → (i : ℕ) → (tally_of i (part at (s.reader_state.len - at) s.reader_state.ranges)).count < 4294967296
-  last_fits at e i =
-      rw (last_part s.reader_state.ranges s.reader_state.len fits at e)
-      (let l = held_ranges s.reader_state in
+  pub last_fits : (i : ℕ) → (tally_of i (last_only (held_ranges s.reader_state))).count < 4294967296
+  last_fits i =
+      let l = held_ranges s.reader_state in
       let k = length-drop (length l - 1) l in
       let q = tally_small i no_tally (last_only l) (λ j g. rw (get_or-drop (length l - 1) l j no_range) (counts (length l - 1 + j) (omega (arith, k, g)))) in
-      omega (arith, q, k, few, held_length s.reader_state.ranges s.reader_state.len fits))
+      omega (arith, q, k, few, held_length s.reader_state.ranges s.reader_state.len fits)
 
   -- ---- changes of the last range
   pub last_changed : (at i : ℕ) (f : ExternalsPartitionRangeReaderState → ExternalsPartitionRangeReaderState) (y : ExternalsPartitionRangeReaderState) → at ≡ s.reader_state.len - 1
-      → y ≡ f (record_of i (range_at at (held_ranges s.reader_state)))
+      → y ≡ f (record_of i (last_range (held_ranges s.reader_state)))
       → with_held (on_place at (with_record i y) (held_ranges s.reader_state)) s ≡ with_held (on_last (on_record i f) (held_ranges s.reader_state)) s
-  last_changed at i f y e q = rw q (ap (λ (k : ℕ). with_held (on_place k (on_record i f) (held_ranges s.reader_state)) s) (last_place s.reader_state.ranges s.reader_state.len fits at e))
+  last_changed at i f y e q = rw q (ap (λ (k : ℕ). with_held (on_place k (with_record i (f (record_of i (last_range (held_ranges s.reader_state))))) (held_ranges s.reader_state)) s) (last_place s.reader_state.ranges s.reader_state.len fits at e))
 
   pub last_set : (f : ExternalsRangeReaderState → ExternalsRangeReaderState) (at : ℕ) (r : ExternalsRangeReaderState) → at ≡ s.reader_state.len - 1 → r ≡ last_range (held_ranges s.reader_state)
       → with_held (set (held_ranges s.reader_state) at (f r)) s ≡ with_held (on_last f (held_ranges s.reader_state)) s
   last_set f at r e q = rw q (ap (λ (k : ℕ). with_held (set (held_ranges s.reader_state) k (f (last_range (held_ranges s.reader_state)))) s) (last_place s.reader_state.ranges s.reader_state.len fits at e))
+
+  -- ---- what the host has taken
+  pub taken_there : (seqno i at taken : ℕ) (x : ExternalsPartitionRangeReaderState) → at ≡ place_of seqno (held_ranges s.reader_state) → x ≡ record_of i (range_at at (held_ranges s.reader_state))
+      → with_held (on_place at (with_record i (with_count (x.count - taken) x)) (held_ranges s.reader_state)) s
+      ≡ with_held (on_place (place_of seqno (held_ranges s.reader_state)) (on_record i (with_count ((record_of i (range_at (place_of seqno (held_ranges s.reader_state)) (held_ranges s.reader_state))).count - taken))) (held_ranges s.reader_state)) s
+  taken_there seqno i at taken x e q =
+      ap (λ (z : ExternalsPartitionRangeReaderState). with_held (on_place at (with_record i (with_count (z.count - taken) z)) (held_ranges s.reader_state)) s) q
+      ∙ ap (λ (k : ℕ). with_held (on_place k (on_record i (with_count ((record_of i (range_at k (held_ranges s.reader_state))).count - taken))) (held_ranges s.reader_state)) s) e
+
+  -- ---- whether there is a last range
+  pub last_held : {x : ExternalsRangeReaderState} → (ltb 0 (length (held_ranges s.reader_state)) ≡ true) × (x ≡ last_range (held_ranges s.reader_state)) → (0 < s.reader_state.len) × (x ≡ last_range (held_ranges s.reader_state))
+  last_held h = (rw (held_length s.reader_state.ranges s.reader_state.len fits) at (ltb-true _ _ h.0), h.1)
+
+  pub none_held : ltb 0 (length (held_ranges s.reader_state)) ≡ false → s.reader_state.len ≡ 0
+  none_held h = let n = held_length s.reader_state.ranges s.reader_state.len fits in let z = ltb-false _ _ h in omega (arith, n, z)
 
   -- ---- the last range alone
   module _ (some-range : 0 < s.reader_state.len) (r : ExternalsRangeReaderState) (q : r ≡ last_range (held_ranges s.reader_state)) where

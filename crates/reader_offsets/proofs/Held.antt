@@ -1,28 +1,18 @@
 -- The ranges held as a list, and a table whose first slots hold a list.
-use Prim.Native.Nat.{ℕ, ◌-◌, ◌≤◌, ◌<◌}
+use Prim.Native.Nat.{ℕ, ◌≤◌, ◌<◌}
 use mathlib.Core.Path.{◌≡◌, sym, ap, ◌∙◌}
 use mathlib.Core.List.{List, ◌++◌}
-use native.Mathlib.Omega.{arith}
-use lib.ListN.{length, get_or, take, drop, set, length-set, take-append-drop, get_or-eq_default}
-use lib.Seq.{length-take-le, get_or-take, take-set-lt, drop-set-lt}
+use lib.ListN.{length, take, drop, set, length-set, take-append-drop}
+use lib.Seq.{length-take-le, take-set-lt, drop-set-lt}
 use Rattle.range_rules.specs.declared.ExternalsRangeReaderState.{ExternalsRangeReaderState}
 use Rattle.reader_rules.specs.declared.ExternalsReader.{ExternalsReader}
-use Rattle.reader_rules.specs.State.{no_range, held_ranges}
-use Rattle.reader_rules.specs.Offsets.{range_at, last_range, with_ranges, with_held}
+use Rattle.reader_rules.specs.State.{held_ranges}
+use Rattle.reader_rules.specs.Offsets.{with_ranges, with_held}
 
 -- ---- the list
 module _ (xs : List ExternalsRangeReaderState) (len : ℕ) (fits : len ≤ length xs) where
   pub held_length : length (take len xs) ≡ len
   held_length = length-take-le len xs fits
-
-  pub held_at : (i : ℕ) → i < len → range_at i (take len xs) ≡ get_or xs i no_range
-  held_at i h = get_or-take len xs i no_range h
-
-  pub held_last : 0 < len → last_range (take len xs) ≡ get_or xs (len - 1) no_range
-  held_last h = rw held_length (held_at (len - 1) (omega arith))
-
-  pub held_past : (i : ℕ) → len ≤ i → range_at i (take len xs) ≡ no_range
-  held_past i h = get_or-eq_default (take len xs) no_range (rw held_length h)
 
   -- one slot changed: the list changes there, and the slots behind it stay
   pub set_held : (i : ℕ) (r : ExternalsRangeReaderState) → i < len → set xs i r ≡ set (take len xs) i r ++ drop (length (set (take len xs) i r)) xs

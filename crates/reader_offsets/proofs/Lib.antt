@@ -3,3 +3,4 @@ pub mod Windows
 pub mod Held
 pub mod Changes
 pub mod Shown
+pub mod There

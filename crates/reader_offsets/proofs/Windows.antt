@@ -1,29 +1,23 @@
 -- Chains over the partitions and over ranges, as the definitions say them, and the loop of a tally.
 use Prim.Native.Nat.{ℕ, suc, zero, ◌+◌, ◌≤◌, ◌<◌}
 use mathlib.Core.Path.{◌≡◌, refl, sym, ap, ◌∙◌}
-use mathlib.Core.Bool.{Bool, true, false, not, cond, ◌&&◌}
+use mathlib.Core.Bool.{Bool, true, false, cond, ◌&&◌}
 use mathlib.Core.List.{List, [], ◌∷◌}
 use native.Mathlib.Omega.{arith}
 use native.Mathlib.Numerals.{add-one}
 use lib.Dec.{eqb, ltb}
-use Rattle.std.specs.Option.{unwrap_or}
-use Rattle.std.specs.Prelude.{Option, Some, None}
-use Rattle.std.proofs.lemmas.Bool.Decides.{nat_tests}
-use Rattle.std.proofs.lemmas.List.Sums.{prefix_len-le-length}
+use Rattle.std.specs.Bool.{then_some}
+use Rattle.std.specs.Prelude.{Some, None}
 use Rattle.rows.specs.Rows.{pick}
 use lib.ListN.{length, get_or, drop, drop_of_length-le}
 use lib.Seq.{drop-cons}
 use Rattle.std.specs.List.{zip, list_all, position_or_len}
-use Rattle.messages_buffer.specs.Fullness.{every}
+use Rattle.std.proofs.lemmas.List.Recursion.{is_position_or_len}
 use Rattle.range_rules.specs.declared.ExternalsRangeReaderState.{ExternalsRangeReaderState}
 use Rattle.reader_rules.specs.State.{no_range}
 use Rattle.reader_rules.specs.declared.Tally.{Tally}
+use Rattle.reader_offsets.specs.Answers.{place_there}
 use Rattle.reader_rules.specs.Offsets.{all_below, record_of, tallied, tally_from, place_of}
-
-pub every_listed : {A : Type 0} (f : A → Bool) (l : List A) → list_all f l ≡ every f l
-unfolding every
-every_listed f [] = refl
-every_listed f (x ∷ l) = ap (λ (b : Bool). f x && b) (every_listed f l)
 
 -- ---- 0, 1, .. below n, from the front
 below_front : (n : ℕ) (f : ℕ → Bool) → all_below (suc n) f ≡ (f 0 && all_below n (λ i. f (suc i)))
@@ -47,18 +41,21 @@ below_listed g a b (x ∷ l) (y ∷ m) e =
     ap (λ (z : Bool). g x y && z) (below_listed g a b l m (omega arith)) ∙ sym (below_front (length l) (λ i. g (get_or (x ∷ l) i a) (get_or (y ∷ m) i b)))
 
 -- ---- the place of a seqno
-pub place_listed : (seqno : ℕ) (l : List ExternalsRangeReaderState) → position_or_len (λ r. eqb r.seqno seqno) l ≡ place_of seqno l
+place_listed : (seqno : ℕ) (l : List ExternalsRangeReaderState) → position_or_len (λ r. eqb r.seqno seqno) l ≡ place_of seqno l
 unfolding place_of
-place_listed seqno [] = refl
-place_listed seqno (r ∷ l) = rw (place_listed seqno l) (go (eqb r.seqno seqno))
+place_listed seqno l =
+    sym (is_position_or_len (place_of seqno) (λ r. eqb r.seqno seqno) refl (λ r m. go (eqb r.seqno seqno) (place_of seqno m)) l)
   where
-    go : (b : Bool) → cond (not b) (1 + place_of seqno l) 0 ≡ pick b 0 (suc (place_of seqno l))
-    go true = refl
-    go false = omega arith
+    go : (b : Bool) (n : ℕ) → pick b 0 (suc n) ≡ cond b 0 (1 + n)
+    go true n = refl
+    go false n = omega arith
 
-pub place_found : (seqno len : ℕ) (l : List ExternalsRangeReaderState) (found : Option ℕ) → length l ≡ len
-    → found ≡ cond (ltb (position_or_len (λ r. eqb r.seqno seqno) l) (length l)) (Some (position_or_len (λ r. eqb r.seqno seqno) l)) None → unwrap_or found len ≡ place_of seqno l
-place_found seqno len l found e f = let h = prefix_len-le-length (λ r. not (eqb r.seqno seqno)) l in grind (arith, nat_tests, place_listed)
+pub place_found : (seqno : ℕ) (l : List ExternalsRangeReaderState) → cond (ltb (position_or_len (λ r. eqb r.seqno seqno) l) (length l)) (Some (position_or_len (λ r. eqb r.seqno seqno) l)) None ≡ place_there seqno l
+place_found seqno l = rw (place_listed seqno l) (go (ltb (place_of seqno l) (length l)))
+  where
+    go : (b : Bool) → cond b (Some (place_of seqno l)) None ≡ then_some b (place_of seqno l)
+    go true = refl
+    go false = refl
 
 -- ---- what ranges hold of a partition: a turn, and the end
 module _ (xs : List ExternalsRangeReaderState) (at i : ℕ) (t : Tally) where

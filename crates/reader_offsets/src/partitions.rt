@@ -1,39 +1,46 @@
 // One partition: its record in the reader, and its record in a range.
-ghost use Rattle.std.specs.Prelude.{◌≡◌, not, ◌||◌};
-ghost use Rattle.reader_rules.specs.Offsets.{reader_partition, record_at, collected, meets, partitions_meet, dropped, skip_raised, offset_raised, with_record, with_partition};
+ghost use Rattle.std.specs.Prelude.{◌≡◌, not, ◌||◌, set};
+ghost use Rattle.reader_rules.specs.Offsets.{reader_partition, record_at, collected, meets, partitions_meet, dropped, skip_raised, offset_raised, with_partition};
+ghost use Rattle.reader_offsets.specs.Answers.{partition_there, record_there};
 
-use messages_buffer::{ExternalsPartitionRangeReaderState, NO_PARTITION};
-use range_rules::ExternalsRangeReaderState;
+use messages_buffer::ExternalsPartitionRangeReaderState;
 use reader_rules::{ExternalsPartitionReaderState, ExternalsReader, PartitionTest};
 
-// The reader's record of a partition; one above 7 is absent.
+// The reader's record of a partition, where it is present; one above 7 is not.
 pub(crate) fn partition_at(
-    partitions: [ExternalsPartitionReaderState; 8],
+    partitions: &[ExternalsPartitionReaderState],
     par_id: u8,
-) -> ExternalsPartitionReaderState
-    ensures { result ≡ reader_partition par_id partitions }
+) -> Option<ExternalsPartitionReaderState>
+    ensures { result ≡ partition_there (reader_partition par_id partitions.now) }
 {
     partitions
-        .get(par_id as usize)
+        .get(usize::from(par_id))
         .copied()
-        .unwrap_or(ExternalsPartitionReaderState {
-            processed_to: ext_types::NO_KEY,
-            curr_processed_offset: 0,
-            present: false,
-        })
+        .filter(|partition| partition.present)
 }
 
-// A range's record of a partition; one above 7 is absent.
+// A range's record of a partition, where it is present; one above 7 is not.
+// Beside its twin: one function for both would need a trait for the mark, no plainer than one line of library methods.
 pub(crate) fn record_at(
-    records: [ExternalsPartitionRangeReaderState; 8],
+    records: &[ExternalsPartitionRangeReaderState],
     par_id: u8,
-) -> ExternalsPartitionRangeReaderState
-    ensures { result ≡ record_at par_id records }
+) -> Option<ExternalsPartitionRangeReaderState>
+    ensures { result ≡ record_there (record_at par_id records.now) }
 {
     records
-        .get(par_id as usize)
+        .get(usize::from(par_id))
         .copied()
-        .unwrap_or(NO_PARTITION)
+        .filter(|held| held.present)
+}
+
+// A partition's entry of a table replaced; a partition above 7 has none.
+pub(crate) fn put<T: Copy>(table: &mut [T], par_id: u8, value: T)
+    ensures { table.new ≡ set table.old par_id value }
+{
+    let at = usize::from(par_id);
+    if at < table.len() {
+        table[at] = value;
+    }
 }
 
 pub(crate) fn with_partition(
@@ -44,23 +51,7 @@ pub(crate) fn with_partition(
     ensures { result ≡ with_partition par_id partition reader }
 {
     let mut next = reader;
-    if par_id < 8 {
-        next.reader_state.by_partitions[par_id as usize] = partition;
-    }
-    next
-}
-
-pub(crate) fn with_record(
-    range: ExternalsRangeReaderState,
-    par_id: u8,
-    partition: ExternalsPartitionRangeReaderState,
-) -> ExternalsRangeReaderState
-    ensures { result ≡ with_record par_id partition range }
-{
-    let mut next = range;
-    if par_id < 8 {
-        next.by_partitions[par_id as usize] = partition;
-    }
+    put(&mut next.reader_state.by_partitions, par_id, partition);
     next
 }
 
@@ -70,6 +61,7 @@ fn implies(a: bool, b: bool) -> bool
     !a || b
 }
 
+#[tactic(auto, unfolding(reader_rules::specs::Offsets::meets))]
 pub(crate) fn meets(
     test: PartitionTest,
     partition: ExternalsPartitionReaderState,

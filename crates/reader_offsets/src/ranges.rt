@@ -1,12 +1,12 @@
 // The ranges that a reader holds: tests of them, what they hold of a partition, and changes of them.
-ghost use Rattle.std.specs.Prelude.{Ok, ℕ, ◌+◌, ◌-◌, ◌<◌, ◌≤◌, ◌≡◌, map, ◌++◌, take, drop, set};
-ghost use Rattle.rows.specs.Rows.{part};
+// That they are at most `max_ranges` stands in each contract that needs it: no plainer by a name, it is one inequality.
+ghost use Rattle.std.specs.Prelude.{Ok, ℕ, ◌+◌, ◌<◌, ◌≤◌, ◌≡◌, map, length, set};
 ghost use Rattle.reader_rules.specs.State.{held_ranges, max_ranges};
-ghost use Rattle.reader_offsets.specs.Answers.{by_partitions_of, shown_if_present};
-ghost use Rattle.reader_rules.specs.Offsets.{ranges_meet, all_fully_read, tallied, tally_of, shown_by, marked, raised_range, place_of, with_ranges, with_held, record_of, range_at, last_range, with_record, on_place};
+ghost use Rattle.reader_offsets.specs.Answers.{by_partitions_of, shown_if_present, record_there, last_there, place_there};
+ghost use Rattle.reader_rules.specs.Offsets.{ranges_meet, all_fully_read, tallied, tally_of, shown_by, marked, raised_range, with_ranges, with_held, record_of, range_at, last_range, last_only, with_record, on_place};
 
 use crate::partitions;
-use messages_buffer::{ExternalsPartitionRangeReaderState, NO_PARTITION};
+use messages_buffer::ExternalsPartitionRangeReaderState;
 use range_rules::ExternalsRangeReaderState;
 use reader_rules::{
     ExternalsPartitionReaderState, ExternalsReader, ExternalsReaderState, MAX_RANGES,
@@ -14,49 +14,60 @@ use reader_rules::{
 };
 use std::array;
 
-// Whether each of `n` ranges from `first` on meets the test in each partition.
+// Whether each range meets the test in each partition.
 pub(crate) fn every_range(
     test: PartitionTest,
     partitions: [ExternalsPartitionReaderState; 8],
-    ranges: [ExternalsRangeReaderState; MAX_RANGES],
-    first: usize,
-    n: usize,
+    ranges: &[ExternalsRangeReaderState],
 ) -> bool
-    requires { first + n ≤ max_ranges }
-    ensures { result ≡ ranges_meet test partitions (part first n ranges) }
+    ensures { result ≡ ranges_meet test partitions ranges.now }
 {
-    ranges[first..first + n].iter().all(|range| {
+    ranges.iter().all(|range| {
         partitions::every_partition(test, partitions, range.by_partitions)
     })
 }
 
-pub(crate) fn all_fully_read(ranges: [ExternalsRangeReaderState; MAX_RANGES], len: usize) -> bool
-    requires { len ≤ max_ranges }
-    ensures { result ≡ all_fully_read (take len ranges) }
+pub(crate) fn all_fully_read(ranges: &[ExternalsRangeReaderState]) -> bool
+    ensures { result ≡ all_fully_read ranges.now }
 {
-    ranges[..len].iter().all(|range| range.fully_read)
+    ranges.iter().all(|range| range.fully_read)
 }
 
-pub(crate) fn last_range(state: ExternalsReaderState) -> ExternalsRangeReaderState
-    requires { (0 < state.len) × (state.len ≤ max_ranges) }
-    ensures { result ≡ last_range (held_ranges state) }
+#[tactic(auto, using(crate::proofs::There::last_get))]
+pub(crate) fn last_range(ranges: &[ExternalsRangeReaderState]) -> Option<ExternalsRangeReaderState>
+    ensures { result ≡ last_there ranges.now }
 {
-    state.ranges[state.len - 1]
+    ranges.last().copied()
 }
 
-// A range's record of a partition; at a place without a range it is absent.
+// The last range alone; of none, none.
+#[tactic(auto, using(std::proofs::lemmas::List::take_rest))]
+pub(crate) fn last_only(ranges: &[ExternalsRangeReaderState]) -> &[ExternalsRangeReaderState]
+    ensures { result.now ≡ last_only ranges.now }
+{
+    &ranges[rows::last_place(ranges.len())..]
+}
+
+// A range's record of a partition, where there are both.
 pub(crate) fn record_of(
-    state: ExternalsReaderState,
+    ranges: &[ExternalsRangeReaderState],
     at: usize,
     par_id: u8,
-) -> ExternalsPartitionRangeReaderState
-    requires { state.len ≤ max_ranges }
-    ensures { result ≡ record_of par_id (range_at at (held_ranges state)) }
+) -> Option<ExternalsPartitionRangeReaderState>
+    ensures { result ≡ record_there (record_of par_id (range_at at ranges.now)) }
 {
-    if state.len <= at {
-        return NO_PARTITION;
-    }
-    partitions::record_at(state.ranges[at].by_partitions, par_id)
+    let range = ranges.get(at)?;
+    partitions::record_at(&range.by_partitions, par_id)
+}
+
+// That of the last range.
+pub(crate) fn last_record(
+    ranges: &[ExternalsRangeReaderState],
+    par_id: u8,
+) -> Option<ExternalsPartitionRangeReaderState>
+    ensures { result ≡ record_there (record_of par_id (last_range ranges.now)) }
+{
+    record_of(ranges, rows::last_place(ranges.len()), par_id)
 }
 
 fn tallied(t: Tally, held: ExternalsPartitionRangeReaderState) -> Tally
@@ -68,33 +79,30 @@ fn tallied(t: Tally, held: ExternalsPartitionRangeReaderState) -> Tally
     }
     Tally {
         present: true,
-        count: t.count + held.count as u64,
+        count: t.count + u64::from(held.count),
         processed: t.processed.max(held.processed_offset),
     }
 }
 
-// What `n` ranges from `first` on hold of a partition together.
-fn tally(
-    ranges: [ExternalsRangeReaderState; MAX_RANGES],
-    first: usize,
-    n: usize,
-    par: usize,
-) -> Tally
-    requires { (first + n ≤ max_ranges) × (par < 8) }
-    ensures { result ≡ tally_of par (part first n ranges) }
+// What the ranges hold of a partition together.
+// No plainer as a `fold`: its closure isn't told the bound that the turns before give the count.
+fn tally(ranges: &[ExternalsRangeReaderState], par: usize) -> Tally
+    requires { (length ranges.now ≤ max_ranges) × (par < 8) }
+    ensures { result ≡ tally_of par ranges.now }
 {
     let mut t = Tally {
         present: false,
         count: 0,
         processed: 0,
     };
-    for range in &ranges[first..first + n] {
+    for range in ranges {
         t = tallied(t, range.by_partitions[par]);
     }
     t
 }
 
 // The number that is answered of a partition that is present: its processed offset, or its count.
+// A flag, as in the rule `shown_by`: a closure in its place would state both numbers in its contract again.
 fn shown(t: Tally, offsets: bool) -> Option<u32>
     requires { t.count < 4294967296 }
     ensures { result ≡ shown_if_present offsets t }
@@ -105,24 +113,16 @@ fn shown(t: Tally, offsets: bool) -> Option<u32>
     Some(if offsets { t.processed } else { t.count as u32 })
 }
 
-// What `n` ranges from `first` on hold, by partitions.
-pub(crate) fn by_partitions(
-    ranges: [ExternalsRangeReaderState; MAX_RANGES],
-    first: usize,
-    n: usize,
-    offsets: bool,
-) -> [Option<u32>; 8]
-    requires { (first + n ≤ max_ranges) × ((par : ℕ) → (tally_of par (part first n ranges)).count < 4294967296) }
-    ensures { by_partitions_of (Ok result) ≡ shown_by offsets (part first n ranges) }
+// What the ranges hold, by partitions.
+pub(crate) fn by_partitions(ranges: &[ExternalsRangeReaderState], offsets: bool) -> [Option<u32>; 8]
+    requires { (length ranges.now ≤ max_ranges) × ((par : ℕ) → (tally_of par ranges.now).count < 4294967296) }
+    ensures { by_partitions_of (Ok result) ≡ shown_by offsets ranges.now }
 {
-    let mut all = [None; 8];
-    for par in 0..8 {
-        all[par] = shown(tally(ranges, first, n, par), offsets);
-    }
-    all
+    array::from_fn(|par| shown(tally(ranges, par), offsets))
 }
 
 // A range that is at its end is fully read; no mark is cleared.
+#[tactic(auto, using(ext_types::proofs::Order::same_is_equal, std::proofs::lemmas::Bool::Decides::nat_tests))]
 fn marked(range: ExternalsRangeReaderState) -> ExternalsRangeReaderState
     ensures { result ≡ marked range }
 {
@@ -132,32 +132,25 @@ fn marked(range: ExternalsRangeReaderState) -> ExternalsRangeReaderState
     }
 }
 
-pub(crate) fn marked_ranges(
-    ranges: [ExternalsRangeReaderState; MAX_RANGES],
-    len: usize,
-) -> [ExternalsRangeReaderState; MAX_RANGES]
-    requires { len ≤ max_ranges }
-    ensures { result ≡ map marked (take len ranges) ++ drop len ranges }
+pub(crate) fn mark_ranges(ranges: &mut [ExternalsRangeReaderState])
+    ensures { ranges.new ≡ map marked ranges.old }
 {
-    let mut table = ranges;
-    for range in table[..len].iter_mut() {
+    for range in ranges.iter_mut() {
         *range = marked(*range);
     }
-    table
 }
 
-// The last range with the current offset of each partition that is above the greatest of `len` ranges.
+// The last range with the current offset of each partition that is above the greatest of all ranges.
 pub(crate) fn raised_range(
     last: ExternalsRangeReaderState,
     partitions: [ExternalsPartitionReaderState; 8],
-    ranges: [ExternalsRangeReaderState; MAX_RANGES],
-    len: usize,
+    ranges: &[ExternalsRangeReaderState],
 ) -> ExternalsRangeReaderState
-    requires { len ≤ max_ranges }
-    ensures { result ≡ raised_range partitions (take len ranges) last }
+    requires { length ranges.now ≤ max_ranges }
+    ensures { result ≡ raised_range partitions ranges.now last }
 {
     let raised = array::from_fn(|par| {
-        let greatest = tally(ranges, 0, len, par).processed;
+        let greatest = tally(ranges, par).processed;
         partitions::raised(last.by_partitions[par], partitions[par], greatest)
     });
     ExternalsRangeReaderState {
@@ -166,19 +159,11 @@ pub(crate) fn raised_range(
     }
 }
 
-// The place of the range with this seqno; `len` if there is none.
-pub(crate) fn place_of(
-    ranges: [ExternalsRangeReaderState; MAX_RANGES],
-    len: usize,
-    seqno: u32,
-) -> usize
-    requires { len ≤ max_ranges }
-    ensures { result ≡ place_of seqno (take len ranges) }
+// The place of the range with this seqno.
+pub(crate) fn place_of(ranges: &[ExternalsRangeReaderState], seqno: u32) -> Option<usize>
+    ensures { result ≡ place_there seqno ranges.now }
 {
-    ranges[..len]
-        .iter()
-        .position(|range| range.seqno == seqno)
-        .unwrap_or(len)
+    ranges.iter().position(|range| range.seqno == seqno)
 }
 
 pub(crate) fn with_ranges(
@@ -221,6 +206,7 @@ pub(crate) fn with_record_of(
     requires { (at < reader.reader_state.len) × (reader.reader_state.len ≤ max_ranges) }
     ensures { result ≡ with_held (on_place at (with_record par_id held) (held_ranges reader.reader_state)) reader }
 {
-    let next = partitions::with_record(reader.reader_state.ranges[at], par_id, held);
-    with_range(reader, at, next)
+    let mut range = reader.reader_state.ranges[at];
+    partitions::put(&mut range.by_partitions, par_id, held);
+    with_range(reader, at, range)
 }

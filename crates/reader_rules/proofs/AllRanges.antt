@@ -1,4 +1,5 @@
 -- Document 01's "All ranges", where it is easily misread: each law is a sentence of the paper.
+use Rattle.std.proofs.lemmas.Bool.{or_left, or_right, or_from}
 use Rattle.std.specs.Prelude.{Option, None, Some}
 use Prim.Native.Nat.{ℕ, suc, ◌+◌, ◌-◌, ◌<◌}
 use mathlib.Core.Path.{◌≡◌, refl, sym, ap, ◌∙◌}
@@ -11,7 +12,7 @@ use lib.ListN.{length, get_or, set}
 use borrow.Author.Tests.{le-leb, eq-eqb, ne_eqb, eqb-true}
 use Rattle.cache_rules.specs.Rules.{or_else}
 use Rattle.rows.specs.Rows.{pick}
-use Rattle.rows.proofs.Laws.{pick_yes, pick_no, no_here, no_later, yes_here, yes_later, or_here, or_later, or_none}
+use Rattle.rows.proofs.Laws.{pick_yes, pick_no, no_here, no_later, yes_here, yes_later}
 use Rattle.ext_types.specs.declared.ChainTime.{ChainTime}
 use Rattle.ext_types.specs.declared.ExternalKey.{ExternalKey}
 use Rattle.ext_types.specs.Keys.{key_equal}
@@ -42,7 +43,7 @@ a_partition_without_a_limit_gets_no_record limit p e l = pick_yes _ _ _ (ap (λ 
 pub a_partition_with_a_limit_gets_a_record_at_the_first_key : (limit : ℕ) (p : ExternalsPartitionReaderState) → p.present ≡ false → eqb limit no_limit ≡ false
     → with_default limit p ≡ record { processed_to = no_key; curr_processed_offset = 0; present = true }
 unfolding with_default
-a_partition_with_a_limit_gets_a_record_at_the_first_key limit p e l = pick_no _ _ _ (or_none _ _ e l)
+a_partition_with_a_limit_gets_a_record_at_the_first_key limit p e l = pick_no _ _ _ (or_from _ _ e l)
 
 pub each_of_eight_partitions_is_entered_by_its_own_limit : (limits : List ℕ) (ps : List ExternalsPartitionReaderState) (i : ℕ) → i < 8
     → get_or (partitions_entered limits ps) i no_reader_partition ≡ with_default (get_or limits i 0) (get_or ps i no_reader_partition)
@@ -175,7 +176,7 @@ module _ (x : Fixed) (range : ExternalsRangeReaderState) where
 
   pub in_refill_the_block's_own_range_is_skipped : x.mode ≡ Refill → is_own x range.seqno ≡ true → is_skipped x range ≡ true
   unfolding is_skipped
-  in_refill_the_block's_own_range_is_skipped e o = or_here (waits x.mode (is_own x range.seqno)) _ (ap (λ m. waits m (is_own x range.seqno)) e ∙ o)
+  in_refill_the_block's_own_range_is_skipped e o = or_left (waits x.mode (is_own x range.seqno)) _ (ap (λ m. waits m (is_own x range.seqno)) e ∙ o)
 
   pub the_block's_own_range_is_read_to_the_end : is_own x range.seqno ≡ true → mode_for x range.seqno ≡ ToTheEnd
   unfolding mode_for
@@ -272,15 +273,15 @@ a_range_read_goes_back_to_its_place_settled x i r a e = ap (λ (q : RangesRead).
 module _ (one : OneRange) (x : Fixed) (n i : ℕ) (s : Outcome RangesRead) where
   pub no_range_is_read_after_a_refusal : 0 < s.value.so_far.number → turns one x (suc n) i s ≡ s
   unfolding turns
-  no_range_is_read_after_a_refusal h = pick_yes _ _ _ (or_here _ s.value.so_far.stopped (ap not (ne_eqb s.value.so_far.number 0 (λ (e : s.value.so_far.number ≡ 0). omega arith))))
+  no_range_is_read_after_a_refusal h = pick_yes _ _ _ (or_left _ s.value.so_far.stopped (ap not (ne_eqb s.value.so_far.number 0 (λ (e : s.value.so_far.number ≡ 0). omega arith))))
 
   pub no_range_is_read_after_one_that_stopped_the_call : s.value.so_far.stopped ≡ true → turns one x (suc n) i s ≡ s
   unfolding turns
-  no_range_is_read_after_one_that_stopped_the_call e = pick_yes (is_over s.value) _ _ (or_later (not (eqb s.value.so_far.number 0)) _ e)
+  no_range_is_read_after_one_that_stopped_the_call e = pick_yes (is_over s.value) _ _ (or_right (not (eqb s.value.so_far.number 0)) _ e)
 
   pub else_the_next_range_has_its_turn : s.value.so_far.number ≡ 0 → s.value.so_far.stopped ≡ false → turns one x (suc n) i s ≡ turns one x n (i + 1) (followed s (turn one x i s.value))
   unfolding turns
-  else_the_next_range_has_its_turn e f = pick_no _ _ _ (or_none _ _ (ap (λ (m : ℕ). not (eqb m 0)) e) f)
+  else_the_next_range_has_its_turn e f = pick_no _ _ _ (or_from _ _ (ap (λ (m : ℕ). not (eqb m 0)) e) f)
 
 -- the range appended is the one behind the last
 pub an_appended_range_is_the_last : (x : Fixed) (r : RangesRead) → (with_next_range x r).len ≡ r.len + 1

@@ -1,4 +1,5 @@
 -- `finalize` lowers no offset and clears no mark.
+use Rattle.std.proofs.lemmas.Bool.{and_parts, or_right}
 use Prim.Native.Nat.{ℕ, suc, zero, ◌+◌, ◌-◌, ◌≤◌, ◌<◌}
 use mathlib.Core.Path.{◌≡◌, refl, sym, ap, ◌∙◌, subst}
 use mathlib.Core.Bool.{Bool, true, false, ◌&&◌, ◌||◌}
@@ -9,7 +10,7 @@ use lib.ListN.{length, set, length-set}
 use lib.Seq.{get_or-set_same, get_or-set_other}
 use borrow.Author.Tests.{leb-true, leb-false, ltb-true, eqb-true, eqb-false}
 use Rattle.rows.specs.Rows.{pick}
-use Rattle.rows.proofs.Laws.{and_true, pick_yes, or_later}
+use Rattle.rows.proofs.Laws.{pick_yes}
 use Rattle.ext_types.specs.Keys.{key_equal}
 use Rattle.messages_buffer.specs.declared.ExternalsPartitionRangeReaderState.{ExternalsPartitionRangeReaderState}
 use Rattle.messages_buffer.specs.Fullness.{no_partition}
@@ -71,7 +72,7 @@ raised_not_lower : (p : ExternalsPartitionReaderState) (greatest : ℕ) (x : Ext
 raised_not_lower p greatest x h = go (p.present && ltb greatest p.curr_processed_offset) refl
   where
     go : (b : Bool) → (p.present && ltb greatest p.curr_processed_offset) ≡ b → x.processed_offset ≤ (pick b (with_offsets x.skip_offset p.curr_processed_offset x) x).processed_offset
-    go true e = let g = ltb-true greatest p.curr_processed_offset (and_true p.present _ e).1 in omega arith
+    go true e = let g = ltb-true greatest p.curr_processed_offset (and_parts p.present _ e).1 in omega arith
     go false e = omega arith
 
 map_at : (f : ExternalsRangeReaderState → ExternalsRangeReaderState) (l : List ExternalsRangeReaderState) (j : ℕ) → j < length l → range_at j (map f l) ≡ f (range_at j l)
@@ -108,4 +109,4 @@ module _ (ps : List ExternalsPartitionReaderState) (l : List ExternalsRangeReade
   finalize_clears_no_mark e =
       ap (λ (r : ExternalsRangeReaderState). r.fully_read) finalized_at
       ∙ (ap (λ (b : Bool). key_equal (range_at j (on_last change l)).current_position (range_at j (on_last change l)).to || b) (last_or_same (λ r. r.fully_read ≡ true) (λ q. e) e)
-      ∙ or_later (key_equal (range_at j (on_last change l)).current_position (range_at j (on_last change l)).to) true refl)
+      ∙ or_right (key_equal (range_at j (on_last change l)).current_position (range_at j (on_last change l)).to) true refl)

@@ -1,4 +1,5 @@
 -- Question 5 of the reader is kept: by every change of its ranges, by the next range and by a read of all.
+use Rattle.std.proofs.lemmas.Bool.{and_parts}
 use Rattle.std.specs.Prelude.{Option, None, Some}
 use Prim.Native.Nat.{ℕ, zero, suc, ◌+◌, ◌-◌, ◌≤◌, ◌<◌}
 use mathlib.Core.Path.{◌≡◌, refl, sym, ap, subst, ◌∙◌}
@@ -11,10 +12,11 @@ use lib.ListN.{length, set, take, drop, length-take, length-map, length-set}
 use lib.Seq.{sets-eq, set_out, take_all, take-length, take-append_seam}
 use borrow.Author.Tests.{eqb-true, eq-eqb, leb-true, leb-false, le-leb, ltb-true, ltb-false, not-true}
 use Rattle.rows.specs.Rows.{pick}
-use Rattle.rows.proofs.Laws.{and_true, pick_both, pick_yes}
+use Rattle.rows.proofs.Laws.{pick_both, pick_yes}
 use Rattle.ext_types.specs.declared.ExternalKey.{ExternalKey}
 use Rattle.messages_buffer.specs.declared.ExternalsPartitionRangeReaderState.{ExternalsPartitionRangeReaderState}
 use Rattle.messages_buffer.specs.Fullness.{buffer_cap, count_fits, every, partitions_number}
+use Rattle.messages_buffer.proofs.Laws.{number_zero}
 use Rattle.range_rules.specs.declared.ExternalsRangeReaderState.{ExternalsRangeReaderState}
 use Rattle.range_rules.specs.declared.ReadNextExternalsMode.{ReadNextExternalsMode}
 use Rattle.reader_rules.specs.declared.ExternalsPartitionReaderState.{ExternalsPartitionReaderState}
@@ -34,11 +36,7 @@ Fits r = partitions_number r.by_partitions ≡ 0
 
 counts_of : (ps : List ExternalsPartitionRangeReaderState) → partitions_number ps ≡ 0 → every count_fits ps ≡ true
 unfolding partitions_number
-counts_of ps e = go (every count_fits ps) e
-  where
-    go : (b : Bool) → ◌≡◌ {A = ℕ} (pick b 0 5) 0 → b ≡ true
-    go true q = refl
-    go false q = absurd (omega arith)
+counts_of ps e = number_zero (every count_fits ps) 5 (omega arith) e
 
 counts_in : (ps : List ExternalsPartitionRangeReaderState) → every count_fits ps ≡ true → partitions_number ps ≡ 0
 unfolding partitions_number
@@ -48,14 +46,14 @@ counts_in ps e = pick_yes _ _ _ e
 count_at : (ps : List ExternalsPartitionRangeReaderState) (i : ℕ) → every count_fits ps ≡ true → count_fits (record_at i ps) ≡ true
 unfolding every
 count_at [] i e = refl
-count_at (p ∷ ps) zero e = (and_true (count_fits p) (every count_fits ps) e).0
-count_at (p ∷ ps) (suc i) e = count_at ps i (and_true (count_fits p) (every count_fits ps) e).1
+count_at (p ∷ ps) zero e = (and_parts (count_fits p) (every count_fits ps) e).0
+count_at (p ∷ ps) (suc i) e = count_at ps i (and_parts (count_fits p) (every count_fits ps) e).1
 
 count_put : (ps : List ExternalsPartitionRangeReaderState) (i : ℕ) (y : ExternalsPartitionRangeReaderState) → count_fits y ≡ true → every count_fits ps ≡ true → every count_fits (set ps i y) ≡ true
 unfolding every
 count_put [] i y h e = refl
-count_put (p ∷ ps) zero y h e = rw h (and_true (count_fits p) (every count_fits ps) e).1
-count_put (p ∷ ps) (suc i) y h e = let q = and_true (count_fits p) (every count_fits ps) e in rw q.0 (count_put ps i y h q.1)
+count_put (p ∷ ps) zero y h e = rw h (and_parts (count_fits p) (every count_fits ps) e).1
+count_put (p ∷ ps) (suc i) y h e = let q = and_parts (count_fits p) (every count_fits ps) e in rw q.0 (count_put ps i y h q.1)
 
 count_each : (n : ℕ) (f : ℕ → ExternalsPartitionRangeReaderState) → ((i : ℕ) → count_fits (f i) ≡ true) → every count_fits (each n f) ≡ true
 unfolding every each
@@ -93,8 +91,8 @@ pub record InPlaceOf (r q : ExternalsRangeReaderState) : Type 0 where
 sound_first : (low : ℕ) (r : ExternalsRangeReaderState) (l : List ExternalsRangeReaderState) → sound_ranges_from low (r ∷ l) ≡ true → (low ≤ r.seqno) × (Fits r) × (sound_ranges_from (suc r.seqno) l ≡ true)
 unfolding sound_ranges_from
 sound_first low r l e =
-    let a = and_true (range_sound low r) (sound_ranges_from (suc r.seqno) l) e in
-    let b = and_true (leb low r.seqno) (eqb (partitions_number r.by_partitions) 0) a.0 in
+    let a = and_parts (range_sound low r) (sound_ranges_from (suc r.seqno) l) e in
+    let b = and_parts (leb low r.seqno) (eqb (partitions_number r.by_partitions) 0) a.0 in
     (leb-true low r.seqno b.0, eqb-true (partitions_number r.by_partitions) 0 b.1, a.1)
 
 sound_cons : (low : ℕ) (r : ExternalsRangeReaderState) (l : List ExternalsRangeReaderState) → low ≤ r.seqno → Fits r → sound_ranges_from (suc r.seqno) l ≡ true → sound_ranges_from low (r ∷ l) ≡ true
@@ -227,11 +225,11 @@ module _ (x : Fixed) (r : RangesRead) (w : wants_next x r ≡ true) where
   pub wanted : (r.len < open_ranges_limit_of x.params) × (last_seqno r.len r.ranges < x.block_seqno)
   unfolding wants_next
   wanted =
-      let a = (and_true (eqb r.so_far.number 0) _ w).1 in
-      let b = (and_true r.so_far.all_read _ a).1 in
-      let c = (and_true (continues x.mode) _ b).1 in
-      let d = (and_true (not x.params.new_is_some) _ c).1 in
-      let e = and_true (not (leb (open_ranges_limit_of x.params) r.len)) _ d in
+      let a = (and_parts (eqb r.so_far.number 0) _ w).1 in
+      let b = (and_parts r.so_far.all_read _ a).1 in
+      let c = (and_parts (continues x.mode) _ b).1 in
+      let d = (and_parts (not x.params.new_is_some) _ c).1 in
+      let e = and_parts (not (leb (open_ranges_limit_of x.params) r.len)) _ d in
       (leb-false _ _ (not-true _ e.0), ltb-true _ _ e.1)
 
   pub the_next_range_keeps_question_5 : sound_ranges_from 0 (take r.len r.ranges) ≡ true → sound_ranges_from 0 (take (with_next_range x r).len (with_next_range x r).ranges) ≡ true

@@ -1,4 +1,5 @@
 -- The mark that a read of all leaves says whether every range is fully read.
+use Rattle.std.proofs.lemmas.Bool.{and_parts}
 use Prim.Native.Nat.{ℕ, zero, suc, ◌+◌, ◌-◌, ◌<◌, ◌≤◌}
 use mathlib.Core.Path.{◌≡◌, refl, sym, ap, subst, ◌∙◌}
 use mathlib.Core.Bool.{Bool, true, false, not, ◌&&◌, ◌||◌}
@@ -10,7 +11,7 @@ use lib.ListN.{length, get_or, set, take, length-set}
 use lib.Seq.{take-suc, take-suc-set}
 use borrow.Author.Tests.{eqb-true, eqb-false, not-true}
 use Rattle.rows.specs.Rows.{pick}
-use Rattle.rows.proofs.Laws.{and_true, no_later, yes_later, pick_both, never}
+use Rattle.rows.proofs.Laws.{no_later, yes_later, pick_both, never}
 use Rattle.messages_buffer.specs.Fullness.{every}
 use Rattle.range_rules.specs.declared.ExternalsRangeReaderState.{ExternalsRangeReaderState}
 use Rattle.range_rules.specs.Rules.{Outcome, silent, followed}
@@ -77,7 +78,7 @@ module _ (one : OneRange) (x : Fixed) (slots len : ℕ) where
           record {
             mark = λ y. ap (λ (b : Bool). b && a.range.fully_read) (m.mark z) ∙ ap (λ (b : Bool). all_fully_read (take i r.ranges) && b) (sym (settled_mark x a.range))
                 ∙ sym (ap all_fully_read (take-suc-set r.ranges i q (omega (arith, h, m.many))) ∙ one_more_lem (take i r.ranges) q);
-            stop = λ y s. sym (no_later r.so_far.all_read _ (not-true _ (and_true (eqb a.free 0) _ s).1));
+            stop = λ y s. sym (no_later r.so_far.all_read _ (not-true _ (and_parts (eqb a.free 0) _ s).1));
             many = length-set r.ranges i q ∙ m.many;
             ranges = m.ranges;
           }
@@ -164,6 +165,6 @@ the_mark_says_whether_every_range_is_fully_read one x s fits limit = go (wants_n
           ranges = ap (λ (n : ℕ). n + 1) m.ranges;
         } in
         let h : q.len < slots = omega (arith, (wanted x q w).0, limit) in
-        let n : q.so_far.number ≡ 0 = eqb-true _ 0 (and_true (eqb q.so_far.number 0) _ w).0 in
+        let n : q.so_far.number ≡ 0 = eqb-true _ 0 (and_parts (eqb q.so_far.number 0) _ w).0 in
         let e : s.len + 1 ≡ suc q.len = omega (arith, m.ranges) in
         at_len (s.len + 1) (suc q.len) (turn one x q.len (with_next_range x q)).value e (turn_marked one x slots (s.len + 1) q.len (with_next_range x q) h n appended) z

@@ -1,5 +1,6 @@
 -- "Offsets": what each change of a record, a range or the reader sets, and that it sets nothing else. A change to what
 -- is there already leaves the whole as it is.
+use Rattle.std.proofs.lemmas.Bool.{or_left}
 use Prim.Native.Nat.{ℕ, ◌≤◌, ◌<◌}
 use mathlib.Core.Path.{◌≡◌, refl, sym, ap}
 use mathlib.Core.Bool.{Bool, true, false, ◌||◌}
@@ -8,7 +9,7 @@ use lib.Dec.{ltb}
 use lib.ListN.{length, drop}
 use lib.Seq.{set-get_or, take_at, drop_at}
 use borrow.Author.Tests.{le-leb, lt-leb, lt-ltb, le-ltb}
-use Rattle.rows.proofs.Laws.{pick_yes, pick_no, no_here, no_later, yes_here, or_here}
+use Rattle.rows.proofs.Laws.{pick_yes, pick_no, no_here, no_later, yes_here}
 use Rattle.ext_types.specs.declared.ExternalKey.{ExternalKey}
 use Rattle.ext_types.specs.Keys.{key_equal}
 use Rattle.messages_buffer.specs.declared.ExternalsPartitionRangeReaderState.{ExternalsPartitionRangeReaderState}
@@ -74,7 +75,7 @@ module _ (r : ExternalsRangeReaderState) where
           }
 
   pub finalize_marks_a_range_at_its_end : key_equal r.current_position r.to ≡ true → (marked r).fully_read ≡ true
-  finalize_marks_a_range_at_its_end e = or_here _ r.fully_read e
+  finalize_marks_a_range_at_its_end e = or_left _ r.fully_read e
 
   pub finalize_leaves_a_range_that_is_not_at_its_end : key_equal r.current_position r.to ≡ false → marked r ≡ r
   finalize_leaves_a_range_that_is_not_at_its_end e = ap (λ (b : Bool). with_fully_read r (b || r.fully_read)) e

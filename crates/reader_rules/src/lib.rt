@@ -11,7 +11,7 @@ pub const MAX_RANGES: usize = 16;
 
 pub const MAX_OPEN_RANGES: u8 = 16;
 
-// The reader's record of a partition. Where it is not present its numbers are free.
+// The reader's record of a partition. Where it is not present its numbers are free. A mark, no `Option`: C interface.
 #[repr(C)]
 #[derive(Clone, Copy, Debug, PartialEq, Eq)]
 pub struct ExternalsPartitionReaderState {
@@ -20,7 +20,7 @@ pub struct ExternalsPartitionReaderState {
     pub present: bool,
 }
 
-// `len` ranges, by rising seqno; the slots behind them are free.
+// `len` ranges, by rising seqno; the slots behind them are free. An array and a length: no heap, fixed memory.
 #[derive(Clone, Copy, Debug, PartialEq, Eq)]
 pub struct ExternalsReaderState {
     pub ranges: [ExternalsRangeReaderState; MAX_RANGES],
@@ -29,7 +29,7 @@ pub struct ExternalsReaderState {
     pub last_read_to_anchor_chain_time: Option<ChainTime>,
 }
 
-// `new_is_some`: new settings wait.
+// `new_is_some`: new settings wait. A mark, no `Option`: C interface.
 #[repr(C)]
 #[derive(Clone, Copy, Debug, PartialEq, Eq)]
 pub struct MsgsExecutionParams {
@@ -70,7 +70,8 @@ pub struct Fixed {
     pub room: usize,
 }
 
-// What is asked of a partition, by its record in the reader and its record in a range.
+// What is asked of a partition, by its record in the reader and its record in a range. An enum and no closure (no
+// plainer): the rules name each test, and one contract of a walk over partitions speaks of all.
 #[derive(Clone, Copy, Debug, PartialEq, Eq)]
 pub enum PartitionTest {
     InRange,
@@ -82,7 +83,7 @@ pub enum PartitionTest {
 }
 
 // What ranges together hold of a partition: whether any has it, the messages in their buffers, and the greatest
-// processed offset.
+// processed offset. A mark and no `Option` (no plainer): of a partition that no range has, the offset 0 is still read.
 #[derive(Clone, Copy, Debug, PartialEq, Eq)]
 pub struct Tally {
     pub present: bool,

@@ -1,7 +1,7 @@
 // Records of a session: a kind and a payload. Question 17, and the fields of a payload; those past its end are 0.
 #![tactic(auto)]
 
-ghost use Rattle.std.specs.Prelude.{◌≡◌};
+ghost use Rattle.std.specs.Prelude.{◌≡◌, ◌+◌, ◌*◌, IfOk};
 ghost use Rattle.refusals.specs.Refusals as refused;
 ghost use Rattle.records.specs.Records.{Decodes, kind_number, next_record, in_place, byte_within, as_stated, record_number, shard_of, limits_of, limits_in, params_of, author_of, anchor_in};
 
@@ -10,6 +10,7 @@ use cache_rules::{AUTHOR_BYTES, MAX_ANCHOR_MESSAGES};
 use ext_types::{ChainTime, Seconds};
 use reader_rules::MsgsExecutionParams;
 use refusals::Refusal;
+use rows::MESSAGE_LEN;
 use shard_ident::ShardIdent;
 
 // What a record is, by the number that it begins with.
@@ -48,15 +49,33 @@ impl TryFrom<u16> for Kind {
     }
 }
 
-// The most bytes of a record that can be taken: kind 2, an anchor's 50, then its messages.
-pub const LONGEST: usize = 52 + 33 * MAX_ANCHOR_MESSAGES;
+// A record's length stands before it, and its kind first in it.
+pub const LENGTH_BYTES: usize = 4;
+
+pub const KIND_BYTES: usize = 2;
+
+// An anchor's payload: so many bytes, then its messages.
+pub const ANCHOR_HEAD_BYTES: usize = 50;
+
+// The first bytes of a record, which say how long an anchor's is.
+pub const HEAD_BYTES: usize = KIND_BYTES + ANCHOR_HEAD_BYTES;
+
+// The most bytes of a record that can be taken: an anchor's with the most messages.
+pub const LONGEST: usize = HEAD_BYTES + MESSAGE_LEN * MAX_ANCHOR_MESSAGES;
+
+// The bytes of an anchor's payload with so many messages.
+pub fn anchor_bytes(count: u16) -> usize
+    ensures { result ≡ 50 + 33 * count }
+{
+    ANCHOR_HEAD_BYTES + MESSAGE_LEN * usize::from(count)
+}
 
 // The next record, as far as it is at hand.
 #[derive(Clone, Copy, Debug, PartialEq, Eq)]
 pub enum Next {
     // its bytes: where they begin, and how many they are
     Whole(usize, usize),
-    // so many bytes, more than LONGEST; its first 52 are at hand
+    // so many bytes, more than LONGEST; its first HEAD_BYTES are at hand
     Long(usize),
     // more input is needed
     Part,
@@ -69,14 +88,18 @@ pub fn next_record(input: &[u8], from: usize, end: usize) -> Next
 {
     let have = end.saturating_sub(from);
     let n = rows::num_at::<u32>(input, from) as usize;
-    if have < 4 {
+    if have < LENGTH_BYTES {
         Next::Part
     } else if LONGEST < n {
-        if have < 56 { Next::Part } else { Next::Long(n) }
-    } else if have - 4 < n {
+        if have < LENGTH_BYTES + HEAD_BYTES {
+            Next::Part
+        } else {
+            Next::Long(n)
+        }
+    } else if have - LENGTH_BYTES < n {
         Next::Part
     } else {
-        Next::Whole(from + 4, n)
+        Next::Whole(from + LENGTH_BYTES, n)
     }
 }
 
@@ -110,19 +133,20 @@ fn is_as_stated(kind: Kind, p: &[u8]) -> bool
         Kind::Shard => p.len() == 12,
         Kind::Route => p.len() == 34,
         Kind::Settings => p.len() == 34 && is_byte_within(p, 17, 0, 1),
-        Kind::Anchor => p.len() == 50 + 33 * usize::from(rows::num_at::<u16>(p, 48)),
+        Kind::Anchor => p.len() == anchor_bytes(rows::num_at(p, 48)),
         Kind::Do => p.len() == 1 && is_byte_within(p, 0, 1, 7),
     }
 }
 
-// Question 17 of the record with this number, counted from 1.
-#[tactic(auto, unfolding(crate::specs::Records::record_number))]
-pub fn check_record(number: u64, kind: u16, p: &[u8]) -> Result<(), Refusal>
-    ensures { refused.number result ≡ record_number number kind p.now }
+// Question 17 of the record with this number, counted from 1; its kind, where it is answered "yes".
+#[tactic(auto, using(crate::proofs::Laws::no_kind), unfolding(crate::specs::Records::record_number))]
+pub fn check_record(number: u64, kind: u16, p: &[u8]) -> Result<Kind, Refusal>
+    ensures number { refused.number result ≡ record_number number kind p.now }
+    ensures kind { IfOk result (λ k. kind_number k ≡ kind) }
 {
     let kind = Kind::try_from(kind)?;
     if is_in_place(number, kind) && is_as_stated(kind, p) {
-        Ok(())
+        Ok(kind)
     } else {
         Err(Refusal::Malformed)
     }
@@ -173,11 +197,8 @@ pub fn params_of(p: &[u8]) -> MsgsExecutionParams
 fn author_of(p: &[u8]) -> [u8; AUTHOR_BYTES]
     ensures { result ≡ author_of p.now }
 {
-    let mut author = [0; AUTHOR_BYTES];
-    if let Some(bytes) = p.get(12..44) {
-        author.copy_from_slice(bytes);
-    }
-    author
+    let rest = p.get(12..).unwrap_or(&[]);
+    rest.first_chunk().copied().unwrap_or([0; AUTHOR_BYTES])
 }
 
 // Id 4, chain time 8, author 32.

@@ -35,11 +35,11 @@ impl From<Refusal> for u8 {
 }
 
 // What a call tells that answers by number: 0 for done, or the question.
-pub fn number(answer: Result<(), Refusal>) -> u8
+pub fn number<T: Drop>(answer: Result<T, Refusal>) -> u8
     ensures { result ≡ number answer }
 {
     match answer {
-        Ok(()) => 0,
+        Ok(_) => 0,
         Err(refusal) => u8::from(refusal),
     }
 }

@@ -1,22 +1,24 @@
 -- Laws of the router.
-use Prim.Native.Nat.{ℕ, suc, ◌+◌, ◌-◌, ◌*◌, ◌/◌, ◌%◌, ◌≤◌, ◌<◌}
+use Rattle.std.proofs.lemmas.Bool.{and_parts}
+use Prim.Native.Nat.{ℕ, ◌+◌, ◌-◌, ◌/◌, ◌%◌, ◌≤◌, ◌<◌}
 use mathlib.Core.Path.{◌≡◌, refl, sym, ap, ◌∙◌}
 use mathlib.Core.List.Memᴰ
 use mathlib.Core.List.{List, [], ◌∷◌, ◌++◌, Memᴰ}
-use mathlib.Core.Bool.{Bool, true, false, not, ◌&&◌, ◌||◌}
+use mathlib.Core.Bool.{Bool, true, false, cond, not, ◌&&◌, ◌||◌}
 use mathlib.Core.Logic.{⊎_elim, ◌⊎◌, inl, inr}
 use native.Mathlib.Omega.{arith}
 use native.Mathlib.Nat.{mul-div-le}
 use lib.Dec.{leb, ltb, eqb}
 use lib.ListN.{length, take, drop, get_or, length-drop, length-take, length-append}
-use lib.Seq.{get_or-drop, get_or-take}
 use borrow.Author.Tests.{leb-true, leb-false, le-leb, lt-leb, lt-ltb, le-ltb}
-use Rattle.rows.specs.Rows.{pick, part, rows, same_bytes, later, find_row}
+use Rattle.rows.specs.Rows.{pick, rows, same_bytes, starts_with, later, find_row}
 use Rattle.std.specs.Prelude.{Option, Some, None}
-use Rattle.rows.proofs.Laws.{and_true, same_refl, same_true, same_length, rows_cons, rows_at, rows_wide, rows_length, found_at}
-use Rattle.router.specs.Router.{route_rows, address_of, route_partition_of, listed, none_twice, partitions_exist, sound_routes, routes_number, first_partition, partition_of, partition_at, answer_of, unless_refused, get_partition, max_routes, Answer}
+use Rattle.rows.proofs.Laws.{same_refl, same_true, same_length, rows_cons, rows_wide}
+use Rattle.router.specs.Router.{route_rows, address_of, route_partition_of, listed, none_twice, partitions_exist, sound_routes, routes_number, first_partition, partition_of, answer_of, unless_refused, get_partition, max_routes, Answer}
 use Rattle.std.specs.Prelude.{Result, Ok, Err}
-use Rattle.std.specs.List.{list_all}
+use Rattle.std.specs.List.{list_all, find}
+use Rattle.std.specs.Option.{MatchOption, option_map}
+use denote.Ref.{Bor}
 use Rattle.std.specs.Result.{IsErr, IsErrAnd}
 use Rattle.refusals.specs.declared.Refusal.{Refusal}
 use Rattle.refusals.specs.declared.Refusal.TheVariants.{RoutesUnsound}
@@ -24,35 +26,26 @@ use Rattle.refusals.specs.Refusals.{number_of}
 use Rattle.refusals.proofs.Laws.{refused_is_not_done, handed_on}
 
 -- ---- a message's row
--- the partition that stands in the i-th row
-row_partition : List (List ℕ) → Option ℕ → ℕ
-row_partition l (Some i) = route_partition_of (get_or l i [])
-row_partition l None = 0
+-- the partition of a route that the library found
+found_partition : Option (List ℕ) → ℕ
+found_partition (Some r) = route_partition_of r
+found_partition None = 0
 
-first_found : (m : List ℕ) (l : List (List ℕ)) → length m ≡ 33 → first_partition m l ≡ row_partition l (find_row m l)
-unfolding first_partition find_row row_partition
+first_found : (m : List ℕ) (l : List (List ℕ)) → length m ≡ 33 → found_partition (find (starts_with m) l) ≡ first_partition m l
+unfolding first_partition found_partition
 first_found m [] e = refl
-first_found m (r ∷ l) e = rw e (go (same_bytes (take 33 r) m) (find_row m l) (first_found m l e))
+first_found m (r ∷ l) e = rw e (go (same_bytes (take 33 r) m) (first_found m l e))
   where
-    go : (b : Bool) (f : Option ℕ) → first_partition m l ≡ row_partition l f → pick b (route_partition_of r) (first_partition m l) ≡ row_partition (r ∷ l) (pick b (Some 0) (later 1 f))
-    go true f h = refl
-    go false (Some i) h = let e : 1 + i ≡ suc i = omega arith in rw e h
-    go false None h = h
+    go : (b : Bool) → found_partition (find (starts_with m) l) ≡ first_partition m l → found_partition (cond b (Some r) (find (starts_with m) l)) ≡ pick b (route_partition_of r) (first_partition m l)
+    go true h = refl
+    go false h = h
 
-part_partition : (at : ℕ) (routes : List ℕ) → route_partition_of (part at 34 routes) ≡ get_or routes (at + 33) 0
-part_partition at routes = rw (get_or-take 34 (drop at routes) 33 0 (omega arith), get_or-drop at routes 33 0)
-
--- A message's partition stands in the row that `find_row` finds.
-pub partition_is_that_of_the_row_found : (routes m : List ℕ) → length m ≡ 33 → partition_of routes m ≡ partition_at routes (find_row m (route_rows routes))
-unfolding partition_of row_partition
-partition_is_that_of_the_row_found routes m e = first_found m (route_rows routes) e ∙ go (find_row m (route_rows routes)) refl
-  where
-    go : (f : Option ℕ) → find_row m (route_rows routes) ≡ f → row_partition (route_rows routes) f ≡ partition_at routes f
-    go (Some i) h =
-        let k = rows_length 34 (length routes / 34) routes in
-        let p = (found_at m (route_rows routes) i h).0 in
-        ap route_partition_of (rows_at 34 (length routes / 34) i routes (omega arith)) ∙ part_partition (34 * i) routes
-    go None h = refl
+-- A message's partition stands in the route that is found.
+pub partition_is_that_of_the_row_found : (routes m : List ℕ) (P : Bor (List ℕ) → Type 0) (o : Option (Bor (List ℕ))) (n : ℕ) → length m ≡ 33 → option_map (λ x. x.now) o ≡ find (starts_with m) (route_rows routes)
+    → ((x : Bor (List ℕ)) → P x → n ≡ get_or x.now 33 0) → MatchOption o (n ≡ 0) P → n ≡ partition_of routes m
+unfolding partition_of found_partition
+partition_is_that_of_the_row_found routes m P None n e f k h = h ∙ (ap found_partition f ∙ first_found m (route_rows routes) e)
+partition_is_that_of_the_row_found routes m P (Some x) n e f k h = k x h ∙ (ap found_partition f ∙ first_found m (route_rows routes) e)
 
 -- A message that is not 33 bytes long is unlisted.
 first_short : (m : List ℕ) (l : List (List ℕ)) → (length m ≡ 33 → ⊥) → ((r : List ℕ) → Memᴰ r l → length r ≡ 34) → first_partition m l ≡ 0
@@ -81,18 +74,6 @@ listed_found a (r ∷ l) e = rw e (go (same_bytes (take 33 r) a) (find_row a l) 
     go true f h = refl
     go false (Some i) h = h
     go false None h = h
-
--- the rows from one route on
-module _ (routes : List ℕ) (at left : ℕ) (some : 0 < left) where
-  exist_step : partitions_exist (rows 34 left (drop at routes)) ≡ (leb (get_or routes (at + 33) 0) 7 && partitions_exist (rows 34 (left - 1) (drop (at + 34) routes)))
-  unfolding partitions_exist
-  exist_step = rw (rows_cons 34 left at routes some, part_partition at routes)
-
-  pub exist_next : get_or routes (at + 33) 0 ≤ 7 → partitions_exist (rows 34 left (drop at routes)) ≡ partitions_exist (rows 34 (left - 1) (drop (at + 34) routes))
-  exist_next p = exist_step ∙ rw (le-leb _ _ p)
-
-  pub exist_stop : 7 < get_or routes (at + 33) 0 → partitions_exist (rows 34 left (drop at routes)) ≡ false
-  exist_stop p = exist_step ∙ rw (lt-leb _ _ p)
 
 -- the loop over the routes: l are the bytes that are left, one route and those behind it
 module _ (l route behind : List ℕ) (some : 34 ≤ length l) (cut : (route ≡ take 34 l) × (behind ≡ drop 34 l)) where
@@ -180,7 +161,7 @@ none_twice_behind : (l : List (List ℕ)) (p : List ℕ) → none_twice l ≡ tr
 unfolding none_twice listed
 none_twice_behind [] p e = refl
 none_twice_behind (r ∷ l) p e =
-    let h = and_true (not (listed (take 33 r) l)) (none_twice l) e in
+    let h = and_parts (not (listed (take 33 r) l)) (none_twice l) e in
     rw (none_twice_behind l p h.1, listed_behind (take 33 r) l p, same_either_way (take 33 r) (take 33 p)) (go (listed (take 33 r) l) h.0 (same_bytes (take 33 p) (take 33 r)) (listed (take 33 p) l))
   where
     go : (a : Bool) → not a ≡ true → (s b : Bool) → (not (a || s) && not b) ≡ not (s || b)
@@ -195,7 +176,7 @@ partitions_behind [] p e = go (leb (get_or p 33 0) 7)
     go : (x : Bool) → (x && true) ≡ x
     go true = refl
     go false = refl
-partitions_behind (r ∷ l) p e = let h = and_true (leb (get_or r 33 0) 7) (partitions_exist l) e in rw h.0 (partitions_behind l p h.1)
+partitions_behind (r ∷ l) p e = let h = and_parts (leb (get_or r 33 0) 7) (partitions_exist l) e in rw h.0 (partitions_behind l p h.1)
 
 one_more_fits : (n : ℕ) → leb (n + 1) max_routes ≡ ltb n max_routes
 one_more_fits n = go (leb (n + 1) max_routes) refl
@@ -209,7 +190,7 @@ one_more_fits n = go (leb (n + 1) max_routes) refl
 pub question_3_of_one_row_more : (l : List (List ℕ)) (p : List ℕ) → sound_routes l ≡ true → sound_routes (l ++ (p ∷ [])) ≡ (ltb (length l) max_routes && (leb (route_partition_of p) 7 && not (listed (address_of p) l)))
 unfolding sound_routes
 question_3_of_one_row_more l p e =
-    let h = and_true (none_twice l) (partitions_exist l) (and_true (leb (length l) max_routes) _ e).1 in
+    let h = and_parts (none_twice l) (partitions_exist l) (and_parts (leb (length l) max_routes) _ e).1 in
     rw (length-append l (p ∷ []), one_more_fits (length l), none_twice_behind l p h.0, partitions_behind l p h.1) (ap (λ (b : Bool). ltb (length l) max_routes && b) (go (not (listed (address_of p) l)) (leb (route_partition_of p) 7)))
   where
     go : (a b : Bool) → (a && b) ≡ (b && a)
@@ -232,19 +213,19 @@ none_twice_first : (l m : List (List ℕ)) → none_twice (l ++ m) ≡ true → 
 unfolding none_twice
 none_twice_first [] m e = refl
 none_twice_first (r ∷ l) m e =
-    let h = and_true (not (listed (take 33 r) (l ++ m))) (none_twice (l ++ m)) e in
+    let h = and_parts (not (listed (take 33 r) (l ++ m))) (none_twice (l ++ m)) e in
     rw (listed_among_more (take 33 r) l m h.0, none_twice_first l m h.1)
 
 partitions_first : (l m : List (List ℕ)) → partitions_exist (l ++ m) ≡ true → partitions_exist l ≡ true
 unfolding partitions_exist
 partitions_first [] m e = refl
-partitions_first (r ∷ l) m e = let h = and_true (leb (get_or r 33 0) 7) (partitions_exist (l ++ m)) e in rw (h.0, partitions_first l m h.1)
+partitions_first (r ∷ l) m e = let h = and_parts (leb (get_or r 33 0) 7) (partitions_exist (l ++ m)) e in rw (h.0, partitions_first l m h.1)
 
 pub the_first_rows_of_a_table_that_passes_question_3_pass_it : (l m : List (List ℕ)) → sound_routes (l ++ m) ≡ true → sound_routes l ≡ true
 unfolding sound_routes
 the_first_rows_of_a_table_that_passes_question_3_pass_it l m e =
-    let few = and_true (leb (length (l ++ m)) max_routes) _ e in
-    let h = and_true (none_twice (l ++ m)) (partitions_exist (l ++ m)) few.1 in
+    let few = and_parts (leb (length (l ++ m)) max_routes) _ e in
+    let h = and_parts (none_twice (l ++ m)) (partitions_exist (l ++ m)) few.1 in
     let n = leb-true (length (l ++ m)) max_routes few.0 in
     rw (le-leb (length l) max_routes (omega (arith, n, length-append l m)), none_twice_first l m h.0, partitions_first l m h.1)
 
@@ -283,11 +264,11 @@ own_partition r (x ∷ l) d m = ⊎_elim here (λ (h : Memᴰ r l). behind h (ow
       where
         go : (b : Bool) → same_bytes (take 33 x) (take 33 r) ≡ b → pick b (route_partition_of x) (first_partition (take 33 r) l) ≡ route_partition_of r
         go true e =
-            let t = and_true (not (listed (take 33 x) l)) (none_twice l) d in
+            let t = and_parts (not (listed (take 33 x) l)) (none_twice l) d in
             let y : listed (take 33 x) l ≡ true = rw (same_true (take 33 x) (take 33 r) e) (mem_listed r l h) in
             let n : not true ≡ true = rw y at t.0 in
             absurd (let z : ◌≡◌ {A = ℕ} 0 1 = cc in omega arith)
-        go false e = next (and_true (not (listed (take 33 x) l)) (none_twice l) d).1 h
+        go false e = next (and_parts (not (listed (take 33 x) l)) (none_twice l) d).1 h
 
 -- With question 3 answered yes a listed address gets its own partition, wherever its route stands.
 pub a_listed_address_gets_its_own_partition : (routes r : List ℕ) → routes_number routes ≡ 0 → Memᴰ r (route_rows routes) → partition_of routes (address_of r) ≡ route_partition_of r
@@ -310,7 +291,7 @@ an_unlisted_address_gets_0 routes m p = first_unlisted m (route_rows routes) p
 first_exists : (m : List ℕ) (l : List (List ℕ)) → partitions_exist l ≡ true → first_partition m l ≤ 7
 unfolding first_partition partitions_exist
 first_exists m [] e = omega arith
-first_exists m (x ∷ l) e = go (same_bytes (take 33 x) m) (and_true (leb (route_partition_of x) 7) (partitions_exist l) e) (first_exists m l)
+first_exists m (x ∷ l) e = go (same_bytes (take 33 x) m) (and_parts (leb (route_partition_of x) 7) (partitions_exist l) e) (first_exists m l)
   where
     go : (b : Bool) → (leb (route_partition_of x) 7 ≡ true) × (partitions_exist l ≡ true) → (partitions_exist l ≡ true → first_partition m l ≤ 7) → pick b (route_partition_of x) (first_partition m l) ≤ 7
     go true t h = leb-true _ _ t.0

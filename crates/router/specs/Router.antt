@@ -1,10 +1,9 @@
 -- Which partition a message goes to (document 01, "Ours, and which partition"), and question 3.
 -- A route is 34 bytes: workchain 1, account 32, partition 1; a message is 33: workchain 1, account 32.
-use Rattle.std.specs.Prelude.{ℕ, zero, suc, ◌+◌, ◌*◌, ◌%◌, List, [], ◌∷◌, Bool, true, false, not, ◌&&◌, ◌||◌, leb, eqb, length, take, get_or, Result, Ok, Err}
+use Rattle.std.specs.Prelude.{ℕ, zero, suc, ◌%◌, List, [], ◌∷◌, Bool, true, false, not, ◌&&◌, ◌||◌, leb, eqb, length, take, get_or, Result, Ok, Err}
 use Rattle.refusals.specs.declared.Refusal.{Refusal}
 use Rattle.refusals.specs.Refusals.{number_of}
 use Rattle.rows.specs.Rows.{pick, same_bytes, whole_rows}
-use Rattle.std.specs.Prelude.{Option, Some, None}
 
 abbrev pub route_rows : List ℕ → List (List ℕ)
 route_rows routes = whole_rows 34 routes
@@ -52,11 +51,6 @@ first_partition message (r ∷ l) = pick (same_bytes (address_of r) message) (ro
 
 unfoldable pub partition_of : List ℕ → List ℕ → ℕ
 partition_of routes message = first_partition message (route_rows routes)
-
--- the partition that stands in the row that was found
-abbrev pub partition_at : List ℕ → Option ℕ → ℕ
-partition_at routes (Some i) = get_or routes (34 * i + 33) 0
-partition_at routes None = 0
 
 -- ---- the call
 pub record Answer : Type 0 where

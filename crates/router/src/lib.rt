@@ -6,17 +6,17 @@ ghost use Rattle.refusals.specs.Refusals.{number};
 ghost use Rattle.router.specs.Router.{route_rows, none_twice, partitions_exist, routes_number, partition_of, answer_of, get_partition};
 
 use refusals::Refusal;
+use rows::MESSAGE_LEN;
 
 pub const MAX_ROUTES: usize = 256;
 
 pub const MAX_PARTITION: u8 = 7;
 
-// A message is workchain 1 and account 32 bytes; a route has the partition, 1 byte, behind them.
-pub const MESSAGE_LEN: usize = 33;
+// A message, and the partition behind it.
+pub const ROUTE_LEN: usize = MESSAGE_LEN + 1;
 
-pub const ROUTE_LEN: usize = 34;
-
-// Each address is looked for among the routes behind it.
+// Each address is looked for among the routes behind it. A `while` (no plainer): no iterator hands out a row with those
+// behind it.
 fn none_twice(routes: &[u8]) -> bool
     ensures { result ≡ none_twice (route_rows routes.now) }
 {
@@ -60,10 +60,10 @@ pub fn partition_of(routes: &[u8], message: &[u8]) -> u8
     if message.len() != MESSAGE_LEN {
         return 0;
     }
-    let Some(i) = rows::find_row(routes, ROUTE_LEN, message) else {
-        return 0;
-    };
-    rows::byte_at(routes, ROUTE_LEN * i + MESSAGE_LEN)
+    routes
+        .chunks_exact(ROUTE_LEN)
+        .find(|route| rows::starts_with(route, message))
+        .map_or(0, |route| rows::byte_at(route, MESSAGE_LEN))
 }
 
 // The partition of a message; a message that is not 33 bytes long is unlisted.

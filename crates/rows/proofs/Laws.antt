@@ -1,23 +1,26 @@
 -- Laws of parts, of numbers in bytes and of rows.
+use Rattle.std.proofs.lemmas.Bool.{and_parts}
+use Rattle.std.proofs.lemmas.List.{drop-take}
 use Prim.Native.Nat.{ℕ, zero, suc, ◌+◌, ◌-◌, ◌*◌, ◌/◌, ◌%◌, ◌^◌, ◌≤◌, ◌<◌}
 use mathlib.Core.Path.{◌≡◌, refl, sym, ap, ◌∙◌}
 use mathlib.Core.List.Memᴰ
 use mathlib.Core.List.{List, [], ◌∷◌, ◌++◌, append_assoc, append-nil, Memᴰ}
 use mathlib.Core.Logic.{⊎_elim}
-use mathlib.Core.Bool.{Bool, true, false, not, ◌&&◌, ◌||◌}
-use lib.Dec.{leb, eqb}
-use borrow.Author.Tests.{not-true, not-false, leb-true, leb-false, le-leb, lt-leb, eqb-true, eq-eqb, ne_eqb}
+use mathlib.Core.Bool.{Bool, true, false, cond, not, ◌&&◌}
+use lib.Dec.{leb, ltb, eqb}
+use borrow.Author.Tests.{not-true, not-false, leb-true, leb-false, le-leb, lt-leb, eqb-true, eq-eqb}
 use native.Mathlib.Omega.{arith}
-use native.Mathlib.Nat.{pow-zero, pow-suc, pow-succ', div-lt_iff_lt-mul, mod-add-div, mul_assoc, mul_comm, mul-suc, mul-zero, mul-le-mul_left, mul-div-le, one-le-pow, add-div_left, div-eq_of_lt}
+use native.Mathlib.Nat.{pow-zero, pow-suc, pow-succ', div-lt_iff_lt-mul, mod-add-div, mul_assoc, mul_comm, mul-suc, mul-zero, mul-le-mul_left, mul-div-le, one-le-pow, add-div_left, div-eq_of_lt, div-one, div-div-eq-div-mul}
 use native.Mathlib.Numerals.{add-one}
 use lib.ListN.{length, length-append, take, drop, get_or, set, length-take, length-drop, get_or-eq_default}
-use lib.Seq.{sets, sets-eq, length-sets, drop-cons, take-suc, get_or-drop, get_or-take, drop-drop, take-nil, take-take, take-add, take_all, take_at, drop_at, take-append-le, drop-append-le, length-take-le, take-set-le, drop-set-lt, get_or-set_other, drop-length}
+use lib.Seq.{sets, sets-eq, length-sets, drop-cons, take-suc, get_or-drop, get_or-take, drop-drop, take-nil, take-take, take-add, take_all, take_at, drop_at, take-append-le, drop-append-le, length-take-le, take-set-le, drop-set-lt, drop-length}
 use borrow.Rule.Slice.PartMut.{put_mid}
 use denote.Ref.{Bor}
 use Rattle.std.specs.Array.{IsFirstChunk}
 use Rattle.std.specs.Slice.{IsGetRangeResult}
-use Rattle.std.specs.Int.{sum_through, byte_worth}
-use Rattle.std.specs.Cmp.Lexicographic.{pointwise}
+use Rattle.std.specs.List.{list_all, zip, position_or_len, position_from}
+use Rattle.std.proofs.lemmas.Iterator.Adapters.{position_from-zero}
+use Rattle.std.specs.Int.{sum_through, byte_worth, byte_at, bytes_low_first}
 use Rattle.rows.specs.Rows.{pick, part, le, word, rows, stays, appended, num_at, written, moved_down, fits, append_answer, appended_if_fits, same_bytes, starts_with, whole_rows, later, find_row}
 use Rattle.rows.specs.declared.Appended.TheVariants.{Behind, Moved, NoRoom}
 use Rattle.std.specs.Prelude.{Option, Some, None, MatchOption, unwrap_or, option_copied}
@@ -52,15 +55,6 @@ drop_sets : {A : Type 0} (n : ℕ) (l : List A) (i : ℕ) (vs : List A) → i + 
 drop_sets n l i [] p = refl
 drop_sets n l i (v ∷ vs) p = drop_sets n (set l i v) (suc i) vs (omega arith) ∙ drop-set-lt n l i v (omega arith)
 
-take_drop : {A : Type 0} (m n : ℕ) (l : List A) → take n (drop m l) ≡ drop m (take (m + n) l)
-take_drop zero n l = let e : 0 + n ≡ n = omega arith in rw e
-take_drop (suc m) n [] =
-    let e : suc m + n ≡ suc (m + n) = omega arith in
-    rw e (take-nil n)
-take_drop (suc m) n (x ∷ l) =
-    let e : suc m + n ≡ suc (m + n) = omega arith in
-    rw e (take_drop m n l)
-
 pub drop_take : {A : Type 0} (m n : ℕ) (l : List A) → drop m (take n l) ≡ take (n - m) (drop m l)
 drop_take zero n l = let e : n - 0 ≡ n = omega arith in rw e
 drop_take (suc m) zero l = let e : 0 - suc m ≡ 0 = omega arith in rw e
@@ -69,7 +63,7 @@ drop_take (suc m) (suc n) (x ∷ l) = let e : suc n - suc m ≡ n - m = omega ar
 
 -- a part before or after a store is as it was, and the store's own part is what was stored
 pub part_before : {A : Type 0} (l : List A) (at n i : ℕ) (vs : List A) → at + n ≤ i → part at n (sets l i vs) ≡ part at n l
-part_before l at n i vs p = take_drop at n (sets l i vs) ∙ (ap (drop at) (take_sets (at + n) l i vs p) ∙ sym (take_drop at n l))
+part_before l at n i vs p = sym (drop-take at n (sets l i vs)) ∙ (ap (drop at) (take_sets (at + n) l i vs p) ∙ drop-take at n l)
 
 pub part_after : {A : Type 0} (l : List A) (at n i : ℕ) (vs : List A) → i + length vs ≤ at → part at n (sets l i vs) ≡ part at n l
 part_after l at n i vs p = ap (take n) (drop_sets at l i vs p)
@@ -78,40 +72,11 @@ pub part_same : {A : Type 0} (l : List A) (i : ℕ) (vs : List A) → i + length
 part_same l i vs p =
     rw (sets-eq vs l i p, append_assoc, drop_at (take i l) (vs ++ drop (i + length vs) l) i (length-take-le i l (omega arith)), take_at vs (drop (i + length vs) l) (length vs) refl)
 
-get_d_after : {A : Type 0} (d : A) (l : List A) (i j : ℕ) (vs : List A) → i + length vs ≤ j → get_or (sets l i vs) j d ≡ get_or l j d
-get_d_after d l i j [] p = refl
-get_d_after d l i j (v ∷ vs) p = get_d_after d (set l i v) (suc i) j vs (omega arith) ∙ get_or-set_other l i j v d (λ (e : j ≡ i). omega arith)
-
--- a store, and one element more
-pub sets_snoc : {A : Type 0} (l : List A) (i : ℕ) (vs : List A) (v : A) → sets l i (vs ++ (v ∷ [])) ≡ set (sets l i vs) (i + length vs) v
-sets_snoc l i vs v = sets_append l i vs (v ∷ [])
-
 -- what a slice holds after a store in a part of it
 pub part_stored : {A : Type 0} (l : List A) (at k : ℕ) (vs : List A) → at + length vs ≤ length l → k ≡ length vs → put_mid at k l vs ≡ sets l at vs
 part_stored l at k vs h e = rw (e, drop-drop (length vs) at l, sets-eq vs l at h, append_assoc)
 
--- a turn of a move down
-pub move_more : {A : Type 0} (d : A) (l : List A) (from to i : ℕ) → to ≤ from → from + i < length l
-    → set (sets l to (part from i l)) (to + i) (get_or (sets l to (part from i l)) (from + i) d) ≡ sets l to (part from (i + 1) l)
-move_more d l from to i p q =
-    let e : length (part from i l) ≡ i = part_length l from i (omega arith) in
-    let k : i < length (drop from l) = simp length-drop (omega arith) in
-    let g : get_or (sets l to (part from i l)) (from + i) d ≡ get_or (drop from l) i d = get_d_after d l to (from + i) (part from i l) (omega arith) ∙ sym (get_or-drop from l i d) in
-    rw (g, add-one i, take-suc (drop from l) i d k, sets_snoc l to (part from i l) (get_or (drop from l) i d), e)
-
 -- ---- numbers
-pub le_more : (l : List ℕ) (i k v : ℕ) → 0 < k → sets l i (le k v) ≡ sets (set l i (v % 256)) (i + 1) (le (k - 1) (v / 256))
-unfolding le
-le_more l i zero v p = absurd (omega arith)
-le_more l i (suc k) v p =
-    let e : suc k - 1 ≡ k = omega arith in
-    rw (e, add-one i)
-
-pub le_none : (l : List ℕ) (i k v : ℕ) → k ≤ 0 → sets l i (le k v) ≡ l
-unfolding le
-le_none l i zero v p = refl
-le_none l i (suc k) v p = absurd (omega arith)
-
 pub length_le : (k v : ℕ) → length (le k v) ≡ k
 unfolding le
 length_le zero v = refl
@@ -134,6 +99,23 @@ word_append (x ∷ a) b =
     let h = word_append a b in
     let e : 256 ^ suc (length a) * word b ≡ 256 * (256 ^ length a * word b) = rw pow-succ' (mul_assoc 256 (256 ^ length a) (word b)) in
     omega (arith, ap (λ (n : ℕ). 256 * n) h)
+
+-- std's bytes of a number, the lowest first
+byte_of : (i v : ℕ) → byte_at i v ≡ v / 256 ^ i % 256
+byte_of zero v = rw (pow-zero 256, div-one v)
+byte_of (suc i) v = refl
+
+low_first : (i k v : ℕ) → bytes_low_first i k v ≡ le k (v / 256 ^ i)
+unfolding le
+low_first i zero v = refl
+low_first i (suc k) v = rw (byte_of i v, div-div-eq-div-mul v (256 ^ i) 256, sym (pow-suc 256 i), low_first (suc i) k v)
+
+pub le_of_bytes : (k v : ℕ) → bytes_low_first 0 k v ≡ le k v
+le_of_bytes k v = low_first 0 k v ∙ rw (pow-zero 256, div-one v)
+
+-- where they are put
+pub bytes_put : (k v at : ℕ) (bytes l new : List ℕ) → bytes ≡ bytes_low_first 0 k v → new ≡ written at bytes l → new ≡ written at (le k v) l
+bytes_put k v at bytes l new b e = e ∙ ap (λ (x : List ℕ). written at x l) (b ∙ le_of_bytes k v)
 
 -- ---- rows
 mul_more : (w n : ℕ) → w * suc n ≡ w + w * n
@@ -301,9 +283,6 @@ rows_back w (suc (suc m)) l p =
     rw (e, mul_more w m) (ap (λ (k : List (List ℕ)). take w l ∷ k) h)
 
 -- ---- tests
-pub or_here : (a b : Bool) → a ≡ true → (a || b) ≡ true
-or_here a b h = rw h
-
 pub no_here : (a b : Bool) → a ≡ false → false ≡ (a && b)
 no_here a b h = rw h
 
@@ -317,13 +296,6 @@ yes_here a b x h e = e ∙ rw h
 pub yes_later : (a b : Bool) → b ≡ true → a ≡ (a && b)
 yes_later true b h = sym h
 yes_later false b h = refl
-
-pub or_later : (a b : Bool) → b ≡ true → (a || b) ≡ true
-or_later true b h = refl
-or_later false b h = h
-
-pub or_none : (a b : Bool) → a ≡ false → b ≡ false → (a || b) ≡ false
-or_none a b h k = rw (h, k)
 
 pub pick_yes : {A : Type 0} (b : Bool) (x y : A) → b ≡ true → pick b x y ≡ x
 pick_yes true x y e = refl
@@ -347,10 +319,6 @@ pick_both P false x y p q = q
 
 pub never : {A : Type 0} → true ≡ false → A
 never e = absurd (let z : ◌≡◌ {A = ℕ} 0 1 = cc in omega arith)
-
-pub and_true : (a b : Bool) → (a && b) ≡ true → (a ≡ true) × (b ≡ true)
-and_true true b e = (refl, e)
-and_true false b e = absurd (let z : ◌≡◌ {A = ℕ} 0 1 = cc in omega arith)
 
 -- what a call told of a test b, where its answer r was tested by `if !r`
 pub told_yes : {b : Bool} (r : Bool) → r ≡ b → not r ≡ false → b ≡ true
@@ -397,7 +365,8 @@ le_sum (x ∷ l) (suc k) p =
     let e : y * 256 ^ suc k ≡ 256 * (256 ^ k * y) = mul_comm y (256 ^ suc k) ∙ rw pow-succ' (mul_assoc 256 (256 ^ k) y) in
     rw (h, take-suc l k 0 q, word_append (take k l) (y ∷ []), n) (omega (arith, e))
 
--- the number at the front, from the array that the library finds there
+-- The number at the front, from the array that the library finds there. It stands in three answers: by `using` on the
+-- functions the check doesn't find it (tried, also with the width as a literal).
 pub num_front : (k : ℕ) (l : List ℕ) (o : Option (Bor (List ℕ))) (p : Option (List ℕ)) (n : ℕ) → MatchOption o (length l < suc k) (λ y. IsFirstChunk l y.now (suc k)) → p ≡ option_copied o
     → MatchOption p (n ≡ 0) (λ y. n ≡ sum_through (λ (i : ℕ). byte_worth i (get_or y i 0)) k) → n ≡ num_at (suc k) 0 l
 num_front k l None None n h f e = e ∙ sym (num_past (suc k) 0 l (omega arith))
@@ -482,8 +451,8 @@ fits_yes start from n k cap len p q r = rw (le-leb _ _ p, le-leb _ _ q, le-leb _
 pub fits_parts : (start from n k cap len : ℕ) → fits start from n k cap len ≡ true → (start + cap ≤ len) × (from + n ≤ cap) × (n + k ≤ cap)
 unfolding fits
 fits_parts start from n k cap len e =
-    let a = and_true (leb (start + cap) len) (leb (from + n) cap && leb (n + k) cap) e in
-    let b = and_true (leb (from + n) cap) (leb (n + k) cap) a.1 in
+    let a = and_parts (leb (start + cap) len) (leb (from + n) cap && leb (n + k) cap) e in
+    let b = and_parts (leb (from + n) cap) (leb (n + k) cap) a.1 in
     (leb-true _ _ a.0, leb-true _ _ b.0, leb-true _ _ b.1)
 
 pub append_none : (start from n k cap len : ℕ) → fits start from n k cap len ≡ false → append_answer start from n k cap len ≡ NoRoom
@@ -552,20 +521,20 @@ same_length a b p = go (same_bytes a b) refl
     go true e = absurd (p (ap length (same_true a b e)))
     go false e = e
 
--- the library's comparison of a key with a slice's start is ours
-eqb_turned : (x y : ℕ) → eqb y x ≡ eqb x y
-eqb_turned x y = go (eqb x y) refl
-  where
-    go : (t : Bool) → eqb x y ≡ t → eqb y x ≡ eqb x y
-    go true e = let h = eqb-true x y e in rw h
-    go false e = ne_eqb y x (λ h. let k = eq-eqb x y (sym h) in never (sym k ∙ e)) ∙ sym e
-
-pub same_pointwise : (a b : List ℕ) → pointwise eqb b a ≡ same_bytes a b
+-- the test of each pair, where there are enough bytes
+pub same_zipped : (l key : List ℕ) → length key ≤ length l → list_all (λ q. eqb q.0 q.1) (zip l key) ≡ starts_with key l
 unfolding same_bytes
-same_pointwise [] [] = refl
-same_pointwise [] (y ∷ b) = refl
-same_pointwise (x ∷ a) [] = refl
-same_pointwise (x ∷ a) (y ∷ b) = rw (eqb_turned x y, same_pointwise a b) (and_picked (eqb x y) (same_bytes a b))
+same_zipped [] [] p = refl
+same_zipped (x ∷ l) [] p = refl
+same_zipped [] (y ∷ key) p = absurd (omega arith)
+same_zipped (x ∷ l) (y ∷ key) p = ap (λ (b : Bool). eqb x y && b) (same_zipped l key (omega arith)) ∙ and_picked (eqb x y) (starts_with key l)
+
+-- too few bytes don't begin with the key
+pub same_short : (l key : List ℕ) → length l < length key → starts_with key l ≡ false
+unfolding same_bytes
+same_short l [] p = absurd (omega arith)
+same_short [] (y ∷ key) p = refl
+same_short (x ∷ l) (y ∷ key) p = rw (same_short l key (omega arith)) (pick_same (eqb x y) false)
 
 -- ---- the first row that begins with a key
 pub later_later : (m n : ℕ) (f : Option ℕ) → later m (later n f) ≡ later (m + n) f
@@ -587,30 +556,18 @@ pub whole_none : (w : ℕ) (l : List ℕ) → length l < w → whole_rows w l �
 unfolding rows
 whole_none w l p = rw (div-eq_of_lt p)
 
--- a turn of the search, at the i-th row
-module _ (key row : List ℕ) (l : List (List ℕ)) (i : ℕ) where
-  pub find_here : starts_with key row ≡ true → later i (find_row key (row ∷ l)) ≡ Some i
-  unfolding find_row
-  find_here e = let z : i + 0 ≡ i = omega arith in rw (e, z)
+-- the library's first place
+found_from : (key : List ℕ) (l : List (List ℕ)) (i : ℕ) → position_from (starts_with key) i l ≡ later i (find_row key l)
+unfolding find_row
+found_from key [] i = refl
+found_from key (r ∷ l) i = rw (found_from key l (i + 1)) (go (starts_with key r))
+  where
+    go : (b : Bool) → cond b (Some i) (later (i + 1) (find_row key l)) ≡ later i (pick b (Some 0) (later 1 (find_row key l)))
+    go true = let z : i + 0 ≡ i = omega arith in rw z
+    go false = sym (later_later i 1 (find_row key l))
 
-  pub find_next : starts_with key row ≡ false → later i (find_row key (row ∷ l)) ≡ later (i + 1) (find_row key l)
-  unfolding find_row
-  find_next e = rw e (later_later i 1 (find_row key l))
-
--- the same where the rows are those of bytes from which one row was taken
-module _ (key : List ℕ) (w i : ℕ) (row l m : List ℕ) (wide : 0 < w) (taken : m ≡ row ++ l) (whole : length row ≡ w) where
-  pub find_here_in : starts_with key row ≡ true → later i (find_row key (whole_rows w m)) ≡ Some i
-  find_here_in e = rw (taken, whole_cons w row l wide whole) (find_here key row (whole_rows w l) i e)
-
-  pub find_next_in : starts_with key row ≡ false → later i (find_row key (whole_rows w m)) ≡ later (i + 1) (find_row key (whole_rows w l))
-  find_next_in e = rw (taken, whole_cons w row l wide whole) (find_next key row (whole_rows w l) i e)
-
--- the i-th row
-pub rows_at : (w n i : ℕ) (l : List ℕ) → i < n → get_or (rows w n l) i [] ≡ part (w * i) w l
-unfolding rows
-rows_at w zero i l p = absurd (omega arith)
-rows_at w (suc n) zero l p = rw (mul-zero w)
-rows_at w (suc n) (suc i) l p = rw (mul_more w i, sym (drop-drop (w * i) w l)) (rows_at w n i (drop w l) (omega arith))
+pub found_first : (key : List ℕ) (l : List (List ℕ)) → cond (ltb (position_or_len (starts_with key) l) (length l)) (Some (position_or_len (starts_with key) l)) None ≡ find_row key l
+found_first key l = position_from-zero (starts_with key) l ∙ (found_from key l 0 ∙ later_none (find_row key l))
 
 -- whole rows are w bytes wide
 pub rows_wide : (w n : ℕ) (l r : List ℕ) → w * n ≤ length l → Memᴰ r (rows w n l) → length r ≡ w

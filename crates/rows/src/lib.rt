@@ -6,8 +6,11 @@ ghost use Rattle.std.specs.Prelude.{ℕ, ◌≡◌, ◌+◌, ◌*◌, ◌<◌, �
 ghost use Rattle.std.proofs.lemmas.List.Edits.{sets};
 ghost use Rattle.rows.specs.Rows.{part, le, num_at, written, moved_down, fits, append_answer, appended_if_fits, placed_at, starts_with, whole_rows, find_row};
 
+// A message: workchain 1, account 32 bytes.
+pub const MESSAGE_LEN: usize = 33;
+
 // Where the new bytes stand: behind the old ones; behind them after they went down to the table's start; nowhere, and
-// nothing was written.
+// nothing was written. No plainer as `Option` or `Result`: `NoRoom` stands beside two places.
 #[derive(Clone, Copy, Debug, PartialEq, Eq)]
 pub enum Appended {
     Behind,
@@ -36,6 +39,10 @@ pub trait LittleEndian: Sized {
     // The number that the first bytes stand for; of too few bytes it is 0.
     fn of_front(bytes: &[u8]) -> Self
         ensures { number result ≡ num_at width 0 bytes.now };
+
+    // The number's bytes, from a place on.
+    fn put_at(self, out: &mut [u8], at: usize)
+        ensures { out.new ≡ written at (le width (number self)) out.old };
 }
 
 impl LittleEndian for u16 {
@@ -45,6 +52,11 @@ impl LittleEndian for u16 {
 
     fn of_front(bytes: &[u8]) -> u16 {
         bytes.first_chunk().copied().map_or(0, u16::from_le_bytes)
+    }
+
+    #[tactic(auto, using(crate::proofs::Laws::bytes_put))]
+    fn put_at(self, out: &mut [u8], at: usize) {
+        copy_in(out, at, &self.to_le_bytes());
     }
 }
 
@@ -56,6 +68,11 @@ impl LittleEndian for u32 {
     fn of_front(bytes: &[u8]) -> u32 {
         bytes.first_chunk().copied().map_or(0, u32::from_le_bytes)
     }
+
+    #[tactic(auto, using(crate::proofs::Laws::bytes_put))]
+    fn put_at(self, out: &mut [u8], at: usize) {
+        copy_in(out, at, &self.to_le_bytes());
+    }
 }
 
 impl LittleEndian for u64 {
@@ -65,6 +82,11 @@ impl LittleEndian for u64 {
 
     fn of_front(bytes: &[u8]) -> u64 {
         bytes.first_chunk().copied().map_or(0, u64::from_le_bytes)
+    }
+
+    #[tactic(auto, using(crate::proofs::Laws::bytes_put))]
+    fn put_at(self, out: &mut [u8], at: usize) {
+        copy_in(out, at, &self.to_le_bytes());
     }
 }
 
@@ -95,17 +117,11 @@ pub fn byte_at(s: &[u8], at: usize) -> u8
     s.get(at).copied().unwrap_or(0)
 }
 
-// The low k bytes of v, from a place on.
-pub fn put_le(out: &mut [u8], at: usize, v: u64, k: usize)
-    ensures { out.new ≡ written at (le k v) out.old }
+// A number's bytes, from a place on.
+pub fn put<N: LittleEndian>(out: &mut [u8], at: usize, n: N)
+    ensures { out.new ≡ written at (le N.width (N.number n)) out.old }
 {
-    if sum_within(at, k, out.len()) {
-        let mut rest = v;
-        for byte in &mut out[at..at + k] {
-            *byte = (rest % 256) as u8;
-            rest /= 256;
-        }
-    }
+    n.put_at(out, at);
 }
 
 // All of src, from a place on.
@@ -121,9 +137,7 @@ fn move_down_in(s: &mut [u8], from: usize, to: usize, n: usize)
     requires { (to ≤ from) × (from + n ≤ length s.old) }
     ensures { s.new ≡ sets s.old to (part from n s.old) }
 {
-    for i in 0..n {
-        s[to + i] = s[from + i];
-    }
+    s.copy_within(from..from + n, to);
 }
 
 // n bytes go down from a place to one that is not above it.
@@ -161,11 +175,12 @@ pub fn append(s: &mut [u8], start: usize, from: usize, n: usize, cap: usize, new
     Appended::Moved
 }
 
-// The slice begins with the key's bytes.
+// The slice begins with the key's bytes. Tried, slower: the library's `starts_with` takes 14 instructions for a row that
+// isn't the key's, this 9.
 pub fn starts_with(s: &[u8], key: &[u8]) -> bool
     ensures { result ≡ starts_with key.now s.now }
 {
-    s.starts_with(key)
+    key.len() <= s.len() && s.iter().zip(key).all(|(x, y)| x == y)
 }
 
 // The first of the whole rows of w bytes that begins with the key.
@@ -175,10 +190,5 @@ pub fn find_row(bytes: &[u8], w: usize, key: &[u8]) -> Option<usize>
     if w == 0 {
         return None;
     }
-    for (i, row) in bytes.chunks_exact(w).enumerate() {
-        if starts_with(row, key) {
-            return Some(i);
-        }
-    }
-    None
+    bytes.chunks_exact(w).position(|row| starts_with(row, key))
 }

@@ -9,7 +9,7 @@ use lib.ListN.{length, drop}
 use Rattle.shard_ident.specs.Shard.{lowest_set, is_shard, shard_number}
 use Rattle.shard_ident.proofs.Masterchain.{a_part_of_the_masterchain_is_refused_by_2}
 use Rattle.rows.specs.Rows.{num_at, word}
-use Rattle.text.specs.Shown.{decimal, line, places, spaced}
+use Rattle.text.specs.Shown.{decimal, line, places, marked}
 use Rattle.lines.specs.Lines.{bad_line}
 use Rattle.records.specs.Records.{as_stated, in_place, record_number, shard_of}
 use Rattle.session_rules.specs.Said.{is_taken, after_or_bad, bad_said, malformed_said, end_said, new_session, record_counted}
@@ -22,7 +22,7 @@ bad_1_2 = 98 ∷ 97 ∷ 100 ∷ 32 ∷ 49 ∷ 32 ∷ 50 ∷ 10 ∷ []
 
 pub a_part_of_the_masterchain_is_bad : (l : Lent) (p : List ℕ) (rest : List (List ℕ)) → length p ≡ 12 → (shard_of p).workchain ≡ negsuc 0 → ((shard_of p).prefix ≡ 2 ^ 63 → ⊥)
     → session_text l new_session no_reader ((1 ∷ 0 ∷ p) ∷ rest) ≡ bad_1_2
-unfolding session_text step_of is_taken record_number in_place as_stated num_at word record_counted new_session taken_outcome reaches_reader reader_outcome reader_said shard_done after_or_bad bad_said bad_line line spaced decimal places
+unfolding session_text step_of is_taken record_number in_place as_stated num_at word record_counted new_session taken_outcome reaches_reader reader_outcome reader_said shard_done after_or_bad bad_said bad_line line marked decimal places
 a_part_of_the_masterchain_is_bad l p rest long masterchain part =
     let two : shard_number (shard_of p) ≡ 2 = (a_part_of_the_masterchain_is_refused_by_2 (shard_of p) masterchain part).0 in
     rw (long, two) (ap (λ (after : List ℕ). bad_1_2 ++ after) (nothing_follows_bad _ _ _ rest refl))
@@ -38,5 +38,5 @@ a_half_of_the_masterchain_is_bad l rest =
 
 -- bad 2 17: the first record is taken, and the input ends where the settings must come
 pub a_half_of_workchain_255_is_taken : (l : Lent) → session_text l new_session no_reader (half_of 255 0 0 0 ∷ []) ≡ 98 ∷ 97 ∷ 100 ∷ 32 ∷ 50 ∷ 32 ∷ 49 ∷ 55 ∷ 10 ∷ []
-unfolding session_text step_of is_taken record_number in_place as_stated num_at word record_counted new_session taken_outcome reaches_reader reader_outcome reader_said reader_reader reader_entries shard_done after_or_bad bad_said malformed_said end_said bad_line line spaced decimal places shard_of is_shard lowest_set
+unfolding session_text step_of is_taken record_number in_place as_stated num_at word record_counted new_session taken_outcome reaches_reader reader_outcome reader_said reader_reader reader_entries shard_done after_or_bad bad_said malformed_said end_said bad_line line marked decimal places shard_of is_shard lowest_set
 a_half_of_workchain_255_is_taken l = refl

@@ -16,7 +16,7 @@ use Rattle.reader_rules.specs.Each.{each}
 use Rattle.reader_rules.specs.Rules.{after_turn, with_next_range, before_skip_offsets, is_skipped, mode_for, next_range, partitions_entered, ranges_read, settled, sums, turn, turns, wants_next, with_default}
 use Rattle.reader_rules.specs.State.{settings_number, sound_ranges_from as reader_sound_from, state_number}
 use Rattle.lines.specs.Lines.{bad_line, end_line, free_line, entry_line, entry_lines, range_line, range_lines}
-use Rattle.text.specs.Shown.{decimal, line, places, spaced}
+use Rattle.text.specs.Shown.{decimal, line, places, marked}
 use Rattle.messages_buffer.specs.Fullness.{all_limited, buffers, every, first_no, free_in, limited_number, limits_number, partitions_number, range_free, smallest}
 use Rattle.range_reader.specs.Calls.{asked_number, range_read}
 use Rattle.range_rules.specs.Rules.{advanced, anchor_read, anchors_read, buffer_one, buffered, entry_bytes, expired, finished, judge, looked, message_read, messages_read, our_read, read_one, stopped}
@@ -87,7 +87,7 @@ unfolding session_text add_call add_number answer close_call open_call pops_call
     sound_row total anchor_row anchors info_row infos view with_messages added_area added_cache added_tables in_cache in_history popped_cache popped_times
     key_above key_equal all_ranges_read asked_of_read new_call read_all_call reader_number settled_number window_read each after_turn with_next_range before_skip_offsets
     is_skipped mode_for next_range partitions_entered ranges_read settled sums turn turns wants_next with_default settings_number
-    reader_sound_from state_number decimal end_line free_line entry_line entry_lines line places range_line range_lines spaced all_limited buffers every
+    reader_sound_from state_number decimal end_line free_line entry_line entry_lines line places range_line range_lines marked all_limited buffers every
     first_no free_in limited_number limits_number partitions_number range_free smallest asked_number range_read advanced anchor_read anchors_read buffer_one buffered
     entry_bytes expired finished judge looked message_read messages_read our_read read_one stopped anchor_in as_stated author_of byte_within in_place
     limits_of params_of record_number shard_of first_partition none_twice partition_of partitions_exist routes_number sound_routes rows_appended le num_at
@@ -98,9 +98,9 @@ the_sample_session_prints_its_eight_lines = refl
 
 -- bad 2 17
 pub a_second_shard_is_bad : (l : Lent) → session_text l new_session no_reader (shard_record ∷ shard_record ∷ do_record 1 ∷ []) ≡ 98 ∷ 97 ∷ 100 ∷ 32 ∷ 50 ∷ 32 ∷ 49 ∷ 55 ∷ 10 ∷ []
-unfolding session_text step_of is_taken record_number in_place as_stated num_at word record_counted new_session taken_outcome reaches_reader reader_outcome reader_said reader_reader reader_entries shard_done after_or_bad bad_said malformed_said end_said bad_line line spaced decimal places shard_of is_shard lowest_set
+unfolding session_text step_of is_taken record_number in_place as_stated num_at word record_counted new_session taken_outcome reaches_reader reader_outcome reader_said reader_reader reader_entries shard_done after_or_bad bad_said malformed_said end_said bad_line line marked decimal places shard_of is_shard lowest_set
 a_second_shard_is_bad l = refl
 
 pub an_end_before_the_settings_is_bad : (l : Lent) → session_text l new_session no_reader (shard_record ∷ []) ≡ 98 ∷ 97 ∷ 100 ∷ 32 ∷ 50 ∷ 32 ∷ 49 ∷ 55 ∷ 10 ∷ []
-unfolding session_text step_of is_taken record_number in_place as_stated num_at word record_counted new_session taken_outcome reaches_reader reader_outcome reader_said reader_reader reader_entries shard_done after_or_bad bad_said malformed_said end_said bad_line line spaced decimal places shard_of is_shard lowest_set
+unfolding session_text step_of is_taken record_number in_place as_stated num_at word record_counted new_session taken_outcome reaches_reader reader_outcome reader_said reader_reader reader_entries shard_done after_or_bad bad_said malformed_said end_said bad_line line marked decimal places shard_of is_shard lowest_set
 an_end_before_the_settings_is_bad l = refl

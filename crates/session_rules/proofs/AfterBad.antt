@@ -1,13 +1,12 @@
 -- A refused record says `bad`, its number, the refusal, and stops the session; nothing follows, no `end` either.
 use Prim.Native.Nat.{ℕ, ◌+◌, ◌<◌}
 use mathlib.Core.Path.{◌≡◌, refl, sym, ◌∙◌}
-use mathlib.Core.Bool.{Bool, true, false, ◌||◌}
+use mathlib.Core.Bool.{Bool, true, false}
 use mathlib.Core.List.{List}
-use lib.Dec.{ltb}
+use native.Mathlib.Omega.{arith}
 use borrow.Author.Tests.{lt-ltb}
-use Rattle.rows.specs.Rows.{pick}
 use Rattle.rows.proofs.Laws.{pick_yes}
-use Rattle.lines.specs.Lines.{bad_line, end_line}
+use Rattle.lines.specs.Lines.{bad_line}
 use Rattle.session_rules.specs.declared.Session.{Session}
 use Rattle.session_rules.specs.Said.{with_record_count, stop, record_counted, printed, nothing_said, bad_said, after_or_bad, malformed_said, is_taken, long_said, end_said}
 use Rattle.session_rules.proofs.Printed.{printed_nothing, bad_where_refused, malformed_stopped, malformed_refused, long_stopped}
@@ -43,11 +42,7 @@ pub record Silence (s : Session) : Type 0 where
 
 end_says_nothing : (s : Session) → s.stopped ≡ true → (cut : Bool) → end_said s cut ≡ nothing_said s
 unfolding end_said
-end_says_nothing s h cut = go (cut || ltb s.records 2)
-  where
-    go : (b : Bool) → pick b (malformed_said s) (pick s.stopped (nothing_said s) (record { session = stop s; text = end_line s.transaction.cache })) ≡ nothing_said s
-    go true = sym (malformed_stopped s h)
-    go false = pick_yes s.stopped (nothing_said s) (record { session = stop s; text = end_line s.transaction.cache }) h
+end_says_nothing s h cut = let m = malformed_stopped s h in grind arith
 
 not_taken : (s : Session) → s.stopped ≡ true → (r : List ℕ) → is_taken s r ≡ false
 unfolding is_taken
@@ -68,11 +63,4 @@ nothing_is_said_after_bad s number = nothing_is_said_once_stopped (stop s) refl
 
 pub nothing_is_said_after_the_end : (s : Session) (cut : Bool) → Silence (end_said s cut).session
 unfolding end_said malformed_said bad_said
-nothing_is_said_after_the_end s cut = nothing_is_said_once_stopped (end_said s cut).session (go (cut || ltb s.records 2) s.stopped refl)
-  where
-    go : (b c : Bool) → s.stopped ≡ c
-        → (pick b (pick c (nothing_said s) (bad_said (record_counted s) 17)) (pick c (nothing_said s) (record { session = stop s; text = end_line s.transaction.cache }))).session.stopped ≡ true
-    go true true e = e
-    go true false e = refl
-    go false true e = e
-    go false false e = refl
+nothing_is_said_after_the_end s cut = nothing_is_said_once_stopped (end_said s cut).session (grind arith)

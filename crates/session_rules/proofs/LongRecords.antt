@@ -1,22 +1,23 @@
 -- A record of more than 16948 bytes is never taken: what it says, and that it leaves all lent bytes, is known from
 -- its first 52 bytes and its length.
-use Prim.Native.Nat.{ℕ, zero, suc, ◌+◌, ◌-◌, ◌*◌, ◌≤◌, ◌<◌}
+use Prim.Native.Nat.{ℕ, ◌+◌, ◌-◌, ◌*◌, ◌≤◌, ◌<◌}
 use mathlib.Core.Path.{◌≡◌, refl, sym, ap, ◌∙◌}
 use mathlib.Core.Bool.{Bool, true, false, not, ◌&&◌}
 use mathlib.Core.List.{List, [], ◌∷◌}
-use mathlib.Core.Logic.{⊎_elim, ◌⊎◌, inl, inr}
+use mathlib.Core.Logic.{⊎_elim, ◌⊎◌}
 use native.Mathlib.Omega.{arith}
-use lib.Dec.{leb, ltb, eqb}
+use lib.Dec.{ltb, eqb}
 use lib.ListN.{length, take, drop, length-drop}
 use lib.Seq.{drop-drop, length-take-le}
-use borrow.Author.Tests.{ltb-true, ltb-false, lt-leb, le-ltb, eqb-true, eqb-false, eq-eqb, ne_eqb}
+use Rattle.std.proofs.lemmas.Bool.Decides.{nat_tests}
+use borrow.Author.Tests.{lt-leb, le-ltb, eqb-true, eqb-false, ne_eqb}
 use Rattle.anchors_cache.proofs.Asked.{on_not}
 use Rattle.rows.specs.Rows.{pick, word, num_at}
 use Rattle.rows.proofs.Laws.{num_in, part_part, pick_no}
 use Rattle.messages_buffer.specs.Fullness.{first_no}
 use Rattle.anchors_cache.specs.declared.AnchorsCacheTransaction.{AnchorsCacheTransaction}
-use Rattle.cache_rules.specs.Rules.{right_size, max_anchor_messages, area_bytes}
-use Rattle.anchors_cache.specs.Calls.{places_in, valid, refusal, answer, add_number, add_call}
+use Rattle.cache_rules.specs.Rules.{right_size, max_anchor_messages}
+use Rattle.anchors_cache.specs.Calls.{refusal, answer, add_number, add_call}
 use Rattle.records.specs.Records.{in_place, as_stated, record_number, longest_record}
 use Rattle.session_rules.specs.declared.Session.{Session}
 use Rattle.session_rules.specs.Said.{record_counted, nothing_said, bad_said, malformed_said, anchor_number, anchor_taken, tables_after, area_after, anchor_said, plain_said, plain_tables, plain_area, plain_routes, is_taken, long_number, long_said}
@@ -41,15 +42,7 @@ module _ (rec : List ℕ) (long : longest_record < length rec) where
 -- an anchor's place is behind the settings
 placed : (number : ℕ) → in_place number 4 ≡ not (ltb number 3)
 unfolding in_place
-placed number = go (ltb number 2) refl (eqb number 2) refl (ltb number 3) refl
-  where
-    go : (a : Bool) → ltb number 2 ≡ a → (b : Bool) → eqb number 2 ≡ b → (c : Bool) → ltb number 3 ≡ c → pick a false (pick b false true) ≡ not c
-    go true e b f true g = refl
-    go true e b f false g = let x = ltb-true number 2 e in let y = ltb-false number 3 g in absurd (omega arith)
-    go false e true f true g = refl
-    go false e true f false g = let x = eqb-true number 2 f in let y = ltb-false number 3 g in absurd (omega arith)
-    go false e false f true g = let x = ltb-false number 2 e in let y = ltb-true number 3 g in absurd (eqb-false number 2 f (omega arith))
-    go false e false f false g = refl
+placed number = grind (arith, nat_tests)
 
 module _ (kind : ℕ) (p : List ℕ) (long : 50 + 33 * max_anchor_messages < length p) where
   -- only an anchor can be so long
@@ -59,38 +52,11 @@ module _ (kind : ℕ) (p : List ℕ) (long : 50 + 33 * max_anchor_messages < len
       let a : eqb (length p) 12 ≡ false = ne_eqb (length p) 12 (λ e. omega arith) in
       let b : eqb (length p) 34 ≡ false = ne_eqb (length p) 34 (λ e. omega arith) in
       let c : eqb (length p) 1 ≡ false = ne_eqb (length p) 1 (λ e. omega arith) in
-      rw (a, b, c) (go (eqb kind 4) refl)
-    where
-      go : (x : Bool) → eqb kind 4 ≡ x
-          → pick (eqb kind 1) false (pick (eqb kind 2) false (pick (eqb kind 3) false (pick x (eqb (length p) (50 + 33 * num_at 2 48 p)) (pick (eqb kind 5) false false)))) ≡ (x && eqb (length p) (50 + 33 * num_at 2 48 p))
-      go true e = rw (eqb-true kind 4 e)
-      go false e = none (eqb kind 1) (eqb kind 2) (eqb kind 3) (eqb kind 5)
-        where
-          none : (k l m n : Bool) → pick k false (pick l false (pick m false (pick n false false))) ≡ false
-          none true l m n = refl
-          none false true m n = refl
-          none false false true n = refl
-          none false false false true = refl
-          none false false false false = refl
+      rw (a, b, c) (grind (arith, nat_tests))
 
   question_17_long : (number : ℕ) → record_number number kind p ≡ pick (ltb number 3) 17 (pick (eqb kind 4) (pick (eqb (length p) (50 + 33 * num_at 2 48 p)) 0 17) 17)
   unfolding record_number
-  question_17_long number = rw stated_long (go (eqb kind 4) refl)
-    where
-      none : (x y : Bool) → pick {A = ℕ} (x && false) 0 17 ≡ pick y 17 17
-      none true true = refl
-      none true false = refl
-      none false true = refl
-      none false false = refl
-
-      go : (x : Bool) → eqb kind 4 ≡ x
-          → pick {A = ℕ} (in_place number kind && (x && eqb (length p) (50 + 33 * num_at 2 48 p))) 0 17 ≡ pick (ltb number 3) 17 (pick x (pick (eqb (length p) (50 + 33 * num_at 2 48 p)) 0 17) 17)
-      go true e = rw (eqb-true kind 4 e, placed number) (both (ltb number 3) (eqb (length p) (50 + 33 * num_at 2 48 p)))
-        where
-          both : (y z : Bool) → pick {A = ℕ} (not y && z) 0 17 ≡ pick y 17 (pick z 0 17)
-          both true z = refl
-          both false z = refl
-      go false e = none (in_place number kind) (ltb number 3)
+  question_17_long number = rw stated_long (grind (arith, nat_tests, placed))
 
 -- ---- question 6 of too many messages
 module _ (len : ℕ) (tables : List ℕ) (t : AnchorsCacheTransaction) (p : List ℕ) where
@@ -98,36 +64,19 @@ module _ (len : ℕ) (tables : List ℕ) (t : AnchorsCacheTransaction) (p : List
   unfolding anchor_number add_number refusal right_size first_no
   too_many_number long =
       let d = length-drop 50 p in
-      rw (lt-leb (length (drop 50 p)) (33 * max_anchor_messages) (omega arith)) (go (leb area_bytes len) (valid (places_in len) tables t))
-    where
-      go : (a b : Bool) → pick {A = ℕ} a (pick b 6 5) 1 ≡ first_no (pick a (pick b 0 5) 1 ∷ 6 ∷ [])
-      go true true = refl
-      go true false = refl
-      go false b = refl
+      rw (lt-leb (length (drop 50 p)) (33 * max_anchor_messages) (omega arith)) (grind arith)
 
   add_refuses_too_many : 50 + 33 * max_anchor_messages < length p → anchor_number len tables t p ≡ 0 → ⊥
   unfolding first_no
-  add_refuses_too_many long e = go (refusal len tables t) (sym (too_many_number long) ∙ e)
-    where
-      go : (n : ℕ) → first_no (n ∷ 6 ∷ []) ≡ 0 → ⊥
-      go zero f = omega arith
-      go (suc n) f = omega arith
+  add_refuses_too_many long e = let h = sym (too_many_number long) ∙ e in grind arith
 
 -- ---- the record's number
 two_less : (n m k : ℕ) → m ≡ n - 2 → 2 ≤ n → eqb n (52 + k) ≡ eqb m (50 + k)
-two_less n m k e h = go (eqb m (50 + k)) refl
-  where
-    go : (b : Bool) → eqb m (50 + k) ≡ b → eqb n (52 + k) ≡ b
-    go true f = let g = eqb-true m (50 + k) f in eq-eqb n (52 + k) (omega arith)
-    go false f = ne_eqb n (52 + k) (λ g. eqb-false m (50 + k) f (omega arith))
+two_less n m k e h = grind (arith, nat_tests)
 
 record_0_or_17 : (number kind : ℕ) (p : List ℕ) → (record_number number kind p ≡ 0) ⊎ (record_number number kind p ≡ 17)
 unfolding record_number
-record_0_or_17 number kind p = go (in_place number kind && as_stated kind p)
-  where
-    go : (b : Bool) → (pick {A = ℕ} b 0 17 ≡ 0) ⊎ (pick {A = ℕ} b 0 17 ≡ 17)
-    go true = inl refl
-    go false = inr refl
+record_0_or_17 number kind p = grind arith
 
 module _ (rec : List ℕ) (long : longest_record < length rec) where
   payload_long : 50 + 33 * max_anchor_messages < length (drop 2 rec)
@@ -142,33 +91,18 @@ module _ (rec : List ℕ) (long : longest_record < length rec) where
       let p = drop 2 rec in
       let count = num_at 2 48 p in
       rw (head_kind rec long, head_count rec long, two_less (length rec) (length p) (33 * count) d (omega arith), question_17_long (num_at 2 0 rec) p payload_long number, too_many_number len tables t p payload_long)
-      (go (ltb number 3) (eqb (num_at 2 0 rec) 4) (eqb (length p) (50 + 33 * count)) (refusal len tables t))
-    where
-      go : (a b c : Bool) (r : ℕ) → first_no (pick a 17 (pick b (pick c 0 17) 17) ∷ first_no (r ∷ 6 ∷ []) ∷ []) ≡ pick a 17 (pick b (pick c (first_no (r ∷ 6 ∷ [])) 17) 17)
-      go true b c r = refl
-      go false true true zero = refl
-      go false true true (suc r) = refl
-      go false true false r = refl
-      go false false c r = refl
+      (grind (arith, nat_tests))
 
   -- only an anchor can be so long
   pub a_long_record_of_another_kind_is_malformed : (number : ℕ) → (num_at 2 0 rec ≡ 4 → ⊥) → record_number number (num_at 2 0 rec) (drop 2 rec) ≡ 17
-  a_long_record_of_another_kind_is_malformed number h = rw (question_17_long (num_at 2 0 rec) (drop 2 rec) payload_long number, ne_eqb (num_at 2 0 rec) 4 h) (go (ltb number 3))
-    where
-      go : (b : Bool) → pick {A = ℕ} b 17 17 ≡ 17
-      go true = refl
-      go false = refl
+  a_long_record_of_another_kind_is_malformed number h = rw (question_17_long (num_at 2 0 rec) (drop 2 rec) payload_long number, ne_eqb (num_at 2 0 rec) 4 h) (grind arith)
 
   module _ (len : ℕ) (tables : List ℕ) (number : ℕ) (t : AnchorsCacheTransaction) where
     pub a_long_record_as_stated_is_refused_as_add_refuses : record_number number (num_at 2 0 rec) (drop 2 rec) ≡ 0
         → long_number len tables number t (take 52 rec) (length rec) ≡ anchor_number len tables t (drop 2 rec)
     unfolding first_no
     a_long_record_as_stated_is_refused_as_add_refuses e =
-        sym (a_long_record_is_judged_by_its_first_52_bytes len tables number t) ∙ rw e (go (anchor_number len tables t (drop 2 rec)))
-      where
-        go : (n : ℕ) → first_no (0 ∷ n ∷ []) ≡ n
-        go zero = refl
-        go (suc n) = refl
+        sym (a_long_record_is_judged_by_its_first_52_bytes len tables number t) ∙ rw e (grind arith)
 
     pub a_long_record_not_as_stated_is_refused_by_17 : record_number number (num_at 2 0 rec) (drop 2 rec) ≡ 17
         → long_number len tables number t (take 52 rec) (length rec) ≡ 17
@@ -176,16 +110,9 @@ module _ (rec : List ℕ) (long : longest_record < length rec) where
     a_long_record_not_as_stated_is_refused_by_17 e = sym (a_long_record_is_judged_by_its_first_52_bytes len tables number t) ∙ rw e
 
 -- ---- what the record says and leaves
-taken_parts : (s : Session) (r : List ℕ) → is_taken s r ≡ true → (s.stopped ≡ false) × (record_number (record_counted s).records (num_at 2 0 r) (drop 2 r) ≡ 0)
+pub taken_parts : (s : Session) (r : List ℕ) → is_taken s r ≡ true → (s.stopped ≡ false) × (2 ≤ length r) × (record_number (record_counted s).records (num_at 2 0 r) (drop 2 r) ≡ 0)
 unfolding is_taken
-taken_parts s r e = go s.stopped refl (ltb (length r) 2) (eqb (record_number (record_counted s).records (num_at 2 0 r) (drop 2 r)) 0) refl e
-  where
-    go : (a : Bool) → s.stopped ≡ a → (b c : Bool) → eqb (record_number (record_counted s).records (num_at 2 0 r) (drop 2 r)) 0 ≡ c → pick a false (pick b false c) ≡ true
-        → (s.stopped ≡ false) × (record_number (record_counted s).records (num_at 2 0 r) (drop 2 r) ≡ 0)
-    go false f false true g e = (f, eqb-true _ 0 g)
-    go true f b c g e = absurd (let z : ◌≡◌ {A = ℕ} 0 1 = cc in omega arith)
-    go false f true c g e = absurd (let z : ◌≡◌ {A = ℕ} 0 1 = cc in omega arith)
-    go false f false false g e = absurd (let z : ◌≡◌ {A = ℕ} 0 1 = cc in omega arith)
+taken_parts s r e = grind (arith, nat_tests)
 
 module _ (s : Session) (rec : List ℕ) (long : longest_record < length rec) where
   pub a_long_record_that_is_taken_is_an_anchor : is_taken s rec ≡ true → num_at 2 0 rec ≡ 4
@@ -193,7 +120,7 @@ module _ (s : Session) (rec : List ℕ) (long : longest_record < length rec) whe
     where
       go : (b : Bool) → eqb (num_at 2 0 rec) 4 ≡ b → num_at 2 0 rec ≡ 4
       go true f = eqb-true (num_at 2 0 rec) 4 f
-      go false f = absurd (let g = a_long_record_of_another_kind_is_malformed rec long (record_counted s).records (eqb-false (num_at 2 0 rec) 4 f) in let h = (taken_parts s rec e).1 in omega arith)
+      go false f = absurd (let g = a_long_record_of_another_kind_is_malformed rec long (record_counted s).records (eqb-false (num_at 2 0 rec) 4 f) in let h = (taken_parts s rec e).2 in omega arith)
 
   pub a_long_record_that_is_not_taken_says_the_same_whole : (len : ℕ) (tables : List ℕ) → is_taken s rec ≡ false → malformed_said s ≡ long_said len tables s (take 52 rec) (length rec)
   unfolding is_taken malformed_said long_said
@@ -221,7 +148,7 @@ module _ (s : Session) (rec : List ℕ) (long : longest_record < length rec) whe
         let h = taken_parts s rec taken in
         rw (a_long_record_that_is_taken_is_an_anchor taken)
         (sym (bad_where_refused (record_counted s) _ (anchor_number (length area) tables s.transaction (drop 2 rec)) refuses)
-        ∙ (ap (bad_said (record_counted s)) (sym (a_long_record_as_stated_is_refused_as_add_refuses rec long (length area) tables (record_counted s).records s.transaction h.1))
+        ∙ (ap (bad_said (record_counted s)) (sym (a_long_record_as_stated_is_refused_as_add_refuses rec long (length area) tables (record_counted s).records s.transaction h.2))
         ∙ sym (pick_no s.stopped (nothing_said s) _ h.0)))
 
     pub a_long_record_leaves_the_tables : plain_tables tables area routes (record_counted s) (num_at 2 0 rec) (drop 2 rec) ≡ tables

@@ -1,18 +1,18 @@
 -- The test of one route more is question 3 of all the routes with it.
 use Prim.Native.Nat.{ℕ, ◌+◌, ◌*◌, ◌/◌, ◌%◌, ◌≤◌}
 use mathlib.Core.Path.{◌≡◌, refl, ap, ◌∙◌}
-use mathlib.Core.Bool.{Bool, true, false, not, ◌&&◌, ◌||◌}
+use mathlib.Core.Bool.{Bool, true, false, not, ◌||◌}
 use mathlib.Core.List.{List, [], ◌∷◌, ◌++◌}
 use native.Mathlib.Omega.{arith}
-use lib.Dec.{leb, ltb, eqb}
-use lib.ListN.{length, take, drop, get_or, length-append}
+use lib.ListN.{length, take, drop, length-append}
 use lib.Seq.{length-take-le, sets-eq, take_at}
-use borrow.Author.Tests.{leb-true, eqb-true, eq-eqb}
+use Rattle.std.proofs.lemmas.Bool.Decides.{nat_tests}
+use borrow.Author.Tests.{eq-eqb}
 use Rattle.std.specs.Prelude.{Option, Some, None}
 use Rattle.rows.specs.Rows.{pick, rows, same_bytes, later, find_row}
 use Rattle.rows.proofs.Laws.{pick_yes, rows_length, rows_snoc, written_in}
 use Rattle.router.proofs.Laws.{question_3_of_one_row_more}
-use Rattle.router.specs.Router.{route_rows, listed, none_twice, partitions_exist, sound_routes, routes_number, max_routes}
+use Rattle.router.specs.Router.{route_rows, listed, none_twice, partitions_exist, sound_routes, routes_number}
 use Rattle.session_rules.specs.Said.{Said, after_or_bad, is_nothing, route_number, placed_number, routes_with, route_said, routes_after}
 use Rattle.session_rules.specs.declared.Session.{Session}
 
@@ -30,12 +30,7 @@ listed_found a (r ∷ l) e = rw e (go (same_bytes (take 33 r) a) (find_row a l) 
 -- what question 3 says of whole rows
 asked_parts : (known : List ℕ) → routes_number known ≡ 0 → (length known % 34 ≡ 0) × (sound_routes (route_rows known) ≡ true)
 unfolding routes_number
-asked_parts known e = go (eqb (length known % 34) 0) refl (sound_routes (route_rows known)) refl e
-  where
-    go : (a : Bool) → eqb (length known % 34) 0 ≡ a → (b : Bool) → sound_routes (route_rows known) ≡ b → pick {A = ℕ} (a && b) 0 3 ≡ 0 → (length known % 34 ≡ 0) × (sound_routes (route_rows known) ≡ true)
-    go true p true q e = (eqb-true (length known % 34) 0 p, q)
-    go true p false q e = absurd (omega arith)
-    go false p b q e = absurd (omega arith)
+asked_parts known e = grind (arith, nat_tests)
 
 -- Where the known routes are as question 3 wants them, the test of one more says what question 3 says of all.
 pub question_3_of_the_routes_with_one_more : (known p : List ℕ) → routes_number known ≡ 0 → length p ≡ 34 → routes_number (known ++ p) ≡ route_number known p
@@ -50,20 +45,12 @@ question_3_of_the_routes_with_one_more known p e long =
     let address : length (take 33 p) ≡ 33 = length-take-le 33 p (omega arith) in
     let s = rows_snoc 34 n known p w long in
     rw (all, z, d, s, question_3_of_one_row_more (rows 34 n known) p k.1, rows_length 34 n known, listed_found (take 33 p) (rows 34 n known) address, long)
-    (ap (λ (f : Bool). pick (ltb n max_routes && (leb (get_or p 33 0) 7 && f)) 0 3) (go (is_nothing (find_row (take 33 p) (rows 34 n known)))))
-  where
-    go : (f : Bool) → not (not f) ≡ f
-    go true = refl
-    go false = refl
+    (grind arith)
 
 -- ---- the lent routes of a session
-placed_parts : (n : ℕ) (routes p : List ℕ) → placed_number n routes p ≡ 0 → (n + length p ≤ length routes) × (route_number (take n routes) p ≡ 0)
+pub placed_parts : (n : ℕ) (routes p : List ℕ) → placed_number n routes p ≡ 0 → (n + length p ≤ length routes) × (route_number (take n routes) p ≡ 0)
 unfolding placed_number
-placed_parts n routes p e = go (leb (n + length p) (length routes)) refl e
-  where
-    go : (b : Bool) → leb (n + length p) (length routes) ≡ b → pick b (route_number (take n routes) p) 3 ≡ 0 → (n + length p ≤ length routes) × (route_number (take n routes) p ≡ 0)
-    go true f e = (leb-true (n + length p) (length routes) f, e)
-    go false f e = absurd (omega arith)
+placed_parts n routes p e = grind (arith, nat_tests)
 
 pub the_routes_before_the_first_answer_question_3 : (routes : List ℕ) → routes_number (take 0 routes) ≡ 0
 unfolding routes_number sound_routes none_twice partitions_exist rows

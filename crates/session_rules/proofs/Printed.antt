@@ -9,7 +9,7 @@ use Rattle.rows.proofs.Laws.{pick_yes, pick_no}
 use Rattle.text.specs.Shown.{Text, show}
 use Rattle.text.proofs.Laws.{show_nothing}
 use Rattle.session_rules.specs.declared.Session.{Session}
-use Rattle.session_rules.specs.Said.{Said, Printed, with_at, record_counted, printed, nothing_said, bad_said, after_or_bad, malformed_said, long_said}
+use Rattle.session_rules.specs.Said.{with_at, record_counted, printed, nothing_said, bad_said, after_or_bad, malformed_said, long_said}
 
 -- ---- a text that a call put there, and silence
 pub printed_text : (s : Session) (text bytes m : List ℕ) (r : ℕ) → record { at = r; bytes = m } ≡ show text (record { at = s.at; bytes = bytes })
@@ -19,21 +19,11 @@ printed_text s text bytes m r e = ap (λ (p : Text). record { session = with_at 
 pub printed_nothing : (s : Session) (bytes : List ℕ) → record { session = s; bytes = bytes } ≡ printed (nothing_said s) bytes
 printed_nothing s bytes = rw (show_nothing (record { at = s.at; bytes = bytes }))
 
-pub printed_same : (a b : Said) (bytes : List ℕ) (t : Printed) → t ≡ printed a bytes → a ≡ b → t ≡ printed b bytes
-printed_same a b bytes t e f = e ∙ ap (λ (x : Said). printed x bytes) f
-
-pub printed_no_text : (s : Session) (a : Said) (bytes : List ℕ) → nothing_said s ≡ a → record { session = s; bytes = bytes } ≡ printed a bytes
-printed_no_text s a bytes e = printed_same (nothing_said s) a bytes _ (printed_nothing s bytes) e
-
 -- ---- a record that may be refused, a malformed one
 module _ (before after : Session) (number : ℕ) where
   pub bad_where_refused : (number ≡ 0 → ⊥) → bad_said before number ≡ after_or_bad before after number
   unfolding after_or_bad
   bad_where_refused h = sym (pick_no (eqb number 0) (nothing_said after) (bad_said before number) (ne_eqb number 0 h))
-
-  pub after_where_not : number ≡ 0 → nothing_said after ≡ after_or_bad before after number
-  unfolding after_or_bad
-  after_where_not h = rw h
 
 pub malformed_stopped : (s : Session) → s.stopped ≡ true → nothing_said s ≡ malformed_said s
 unfolding malformed_said

@@ -1,6 +1,6 @@
 -- How long the texts of the records are that do not reach the reader.
 use Prim.Native.Nat.{ℕ, ◌≤◌}
-use mathlib.Core.Bool.{Bool, true, false, ◌||◌}
+use mathlib.Core.Bool.{Bool, ◌||◌}
 use mathlib.Core.List.{List, [], ◌∷◌}
 use native.Mathlib.Omega.{arith}
 use lib.Dec.{ltb, eqb}
@@ -11,30 +11,21 @@ use Rattle.lines.specs.Lines.{end_line}
 use Rattle.text.proofs.Lengths.{line_length}
 use Rattle.lines.proofs.Lengths.{bad_line_length, end_line_length}
 use Rattle.session_rules.specs.declared.Session.{Session}
-use Rattle.session_rules.specs.Said.{Said, record_counted, stop, nothing_said, bad_said, after_or_bad, malformed_said, route_said, anchor_said, is_read, do_name, called, cache_said, plain_said, long_number, long_said, end_said}
+use Rattle.session_rules.specs.Said.{Said, record_counted, stop, nothing_said, bad_said, after_or_bad, malformed_said, route_said, anchor_said, do_name, called, cache_said, plain_said, long_number, long_said, end_said}
 
 name_length : (d : ℕ) → length (do_name d) ≤ 8
 unfolding do_name
-name_length d = go (is_read d) (eqb d 1) (eqb d 2) (eqb d 5) (eqb d 6)
-  where
-    go : (a b c e f : Bool)
-        → length {A = ℕ} (pick a (114 ∷ 101 ∷ 97 ∷ 100 ∷ []) (pick b (111 ∷ 112 ∷ 101 ∷ 110 ∷ []) (pick c (112 ∷ 111 ∷ 112 ∷ []) (pick e (99 ∷ 111 ∷ 109 ∷ 109 ∷ 105 ∷ 116 ∷ []) (pick f (114 ∷ 111 ∷ 108 ∷ 108 ∷ 98 ∷ 97 ∷ 99 ∷ 107 ∷ []) (99 ∷ 108 ∷ 111 ∷ 115 ∷ 101 ∷ [])))))) ≤ 8
-    go true b c e f = omega arith
-    go false true c e f = omega arith
-    go false false true e f = omega arith
-    go false false false true f = omega arith
-    go false false false false true = omega arith
-    go false false false false false = omega arith
+name_length d = grind arith
 
 -- a text of at most n bytes
 abbrev Short : ℕ → Said → Type 0
 Short n s = length s.text ≤ n
 
-bad_length : (s : Session) (number : ℕ) → length (bad_said s number).text ≤ 46
+pub bad_length : (s : Session) (number : ℕ) → length (bad_said s number).text ≤ 46
 unfolding bad_said
 bad_length s number = bad_line_length s.records number
 
-after_or_bad_length : (before after : Session) (number : ℕ) → length (after_or_bad before after number).text ≤ 46
+pub after_or_bad_length : (before after : Session) (number : ℕ) → length (after_or_bad before after number).text ≤ 46
 unfolding after_or_bad
 after_or_bad_length before after number = pick_both (Short 46) (eqb number 0) (nothing_said after) (bad_said before number) (omega arith) (bad_length before number)
 

@@ -16,32 +16,17 @@ use Rattle.reader_rules.specs.declared.ExternalsReader.{ExternalsReader}
 use Rattle.reader_rules.specs.declared.GetNextMessageGroupMode.{GetNextMessageGroupMode}
 use Rattle.externals_reader.specs.Answers.{ReadAllAnswer}
 use Rattle.externals_reader.specs.Calls.{ReadAllResult, asked_of_read, all_ranges_read, read_all_call}
-use Rattle.text.specs.Shown.{places, decimal, spaced, line}
+use Rattle.text.specs.Shown.{places, decimal, marked, line}
 use Rattle.lines.specs.Lines.{free_line, entry_lines, range_lines}
 use Rattle.text.proofs.Lengths.{line_length, a_text_that_fits_is_shown_whole}
-use Rattle.lines.proofs.Lengths.{free_line_length, entry_lines_length, range_lines_length, bad_line_length}
+use Rattle.lines.proofs.Lengths.{free_line_length, entry_lines_length, range_lines_length}
 use Rattle.session_rules.specs.declared.Session.{Session}
 use Rattle.session_rules.specs.Said.{Said, printed, with_at, record_counted, nothing_said, bad_said, after_or_bad, malformed_said, route_said, anchor_said, is_read, do_name, cache_said, is_taken, plain_said, end_said}
-use Rattle.session_rules.proofs.TextLengths.{a_plain_record_says_at_most_46_bytes, a_malformed_record_says_at_most_46_bytes}
+use Rattle.session_rules.proofs.TextLengths.{bad_length, after_or_bad_length, a_plain_record_says_at_most_46_bytes, a_malformed_record_says_at_most_46_bytes}
 use Rattle.session_rules.proofs.AfterBad.{nothing_is_said_once_stopped}
 use Rattle.session_rules.specs.Steps.{shard_done, settings_done, done_said, done_reader, mode_of, read_text, read_said, Lent, reaches_reader, session_read, has_routes, reader_said, reader_reader, StepOutcome, reader_outcome, plain_outcome, taken_outcome, step_of}
 use Rattle.range_rules.specs.Rules.{entry_len}
 use Rattle.reader_rules.specs.State.{max_ranges}
-
--- ---- a record that is refused, or says nothing
-abbrev Short : Said → Type 0
-Short a = length a.text ≤ 46
-
-bad_short : (s : Session) (number : ℕ) → Short (bad_said s number)
-unfolding bad_said
-bad_short s number = bad_line_length s.records number
-
-nothing_short : (s : Session) → Short (nothing_said s)
-nothing_short s = omega arith
-
-after_or_bad_short : (before after : Session) (number : ℕ) → Short (after_or_bad before after number)
-unfolding after_or_bad
-after_or_bad_short before after number = pick_both Short (eqb number 0) (nothing_said after) (bad_said before number) (nothing_short after) (bad_short before number)
 
 -- ---- a read
 pub a_read_keeps_the_output's_length : (tables area : List ℕ) (t : AnchorsCacheTransaction) (routes : List ℕ) (r : ExternalsReader) (mode : GetNextMessageGroupMode) (out : List ℕ)
@@ -73,7 +58,7 @@ ranges_length a h =
 
 -- read 0
 read_line : length (line (do_name 3) (0 ∷ [])) ≡ 7
-unfolding line spaced decimal places do_name is_read
+unfolding line marked decimal places do_name is_read
 read_line = refl
 
 pub a_read's_text_fits : (a : ReadAllAnswer) (out : List ℕ) → length out ≤ 26624 → length a.reader.reader_state.ranges ≤ max_ranges → length (read_text a out) ≤ 113761
@@ -136,12 +121,12 @@ module _ (l : Lent) (s : Session) (r : ExternalsReader) (kind : ℕ) (p : List �
       go : (shard settings routes : Bool)
           → length (pick shard (done_reader r (shard_done r p)) (pick settings (done_reader r (settings_done r p)) (pick routes a.answer.reader r))).reader_state.ranges ≤ max_ranges
           → length (pick shard (done_said s (shard_done r p)) (pick settings (done_said s (settings_done r p)) (pick routes (read_said s a) (bad_said s 3)))).text ≤ 113761
-      go true settings routes k = let m = after_or_bad_short s s (shard_done r p).number in omega arith
-      go false true routes k = let m = after_or_bad_short s s (settings_done r p).number in omega arith
+      go true settings routes k = let m = after_or_bad_length s s (shard_done r p).number in omega arith
+      go false true routes k = let m = after_or_bad_length s s (settings_done r p).number in omega arith
       go false false true k =
           let e = a_read_keeps_the_output's_length l.tables l.area s.transaction (take s.routes_len l.routes) r (mode_of (get_or p 0 0)) l.entries in
           a_read's_text_fits a.answer a.out (omega arith) k
-      go false false false k = let m = bad_short s 3 in omega arith
+      go false false false k = let m = bad_length s 3 in omega arith
 
   taken_fits : length l.entries ≤ 26624 → length (taken_outcome l s r kind p).reader.reader_state.ranges ≤ max_ranges → length (taken_outcome l s r kind p).said.text ≤ 113761
   unfolding taken_outcome reader_outcome plain_outcome

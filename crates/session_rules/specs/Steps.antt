@@ -174,9 +174,12 @@ leaves o text =
     let p = printed o.said text in
     record { session = p.session; reader = o.reader; lent = o.lent; text = p.bytes }
 
--- one record; a taken one that reaches the reader
+-- one record; a taken one; a taken one that reaches the reader
 abbrev pub whole_after : List ℕ → Whole → Whole
 whole_after rec w = leaves (step_of w.lent w.session w.reader rec) w.text
+
+abbrev pub taken_whole : ℕ → List ℕ → Whole → Whole
+taken_whole kind p w = leaves (taken_outcome w.lent w.session w.reader kind p) w.text
 
 abbrev pub reader_whole : ℕ → List ℕ → Whole → Whole
 reader_whole kind p w = leaves (reader_outcome w.lent w.session w.reader kind p) w.text

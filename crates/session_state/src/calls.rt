@@ -1,26 +1,28 @@
 // The calls of the cache, and their lines.
+// Tables and area stand side by side, as the cache's own calls take them: no plainer, a struct for both would be taken
+// apart again in each call.
 ghost use Rattle.std.specs.Prelude.{◌≡◌, [], ◌∷◌, ◌+◌, ◌*◌, length};
 ghost use Rattle.text.specs.Shown.{show, line};
 ghost use Rattle.refusals.specs.Refusals.{number_of};
 ghost use Rattle.anchors_cache.specs.Answers.{done_of};
 ghost use Rattle.session_rules.specs.Said.{anchor_taken, tables_after, area_after, pop_done, do_name, long_number};
-ghost use Rattle.session_rules.specs.Said.{called as spec_called, is_read as spec_is_read};
+ghost use Rattle.session_rules.specs.Said.{called as spec_called};
 ghost use Rattle.session_state.specs.Dos.{do_byte, do_of};
 
 use anchors_cache::AnchorsCacheTransaction;
-use records::Kind;
+use reader_rules::GetNextMessageGroupMode;
+use records::{ANCHOR_HEAD_BYTES, KIND_BYTES, Kind};
 use refusals::Refusal;
 
-// What a do record asks for; the reads are those of all ranges, in one of the two modes.
+// What a do record asks for; the read is that of all ranges.
 #[derive(Clone, Copy, Debug, PartialEq, Eq)]
 pub enum Do {
-    Open = 1,
-    Pop = 2,
-    ReadContinue = 3,
-    ReadRefill = 4,
-    Commit = 5,
-    Rollback = 6,
-    Close = 7,
+    Open,
+    Pop,
+    Read(GetNextMessageGroupMode),
+    Commit,
+    Rollback,
+    Close,
 }
 
 // By its byte; one that is none of these closes.
@@ -32,8 +34,8 @@ impl From<u8> for Do {
         match byte {
             1 => Do::Open,
             2 => Do::Pop,
-            3 => Do::ReadContinue,
-            4 => Do::ReadRefill,
+            3 => Do::Read(GetNextMessageGroupMode::Continue),
+            4 => Do::Read(GetNextMessageGroupMode::Refill),
             5 => Do::Commit,
             6 => Do::Rollback,
             _ => Do::Close,
@@ -42,29 +44,22 @@ impl From<u8> for Do {
 }
 
 impl Do {
-    #[tactic(auto, unfolding(session_rules::specs::Said::is_read))]
-    pub fn is_read(self) -> bool
-        ensures { result ≡ spec_is_read (do_byte self) }
-    {
-        matches!(self, Do::ReadContinue | Do::ReadRefill)
-    }
-
     // As its line has it.
     #[tactic(auto, unfolding(session_rules::specs::Said::do_name, session_rules::specs::Said::is_read))]
     fn name(self) -> &'static [u8]
         ensures { result.now ≡ do_name (do_byte self) }
     {
         match self {
-            Do::ReadContinue | Do::ReadRefill => b"read",
             Do::Open => b"open",
             Do::Pop => b"pop",
+            Do::Read(_) => b"read",
             Do::Commit => b"commit",
             Do::Rollback => b"rollback",
             Do::Close => b"close",
         }
     }
 
-    // The call's name and its number.
+    // The call's name and its number. A number: here a refusal becomes text.
     pub fn put(self, text: &mut [u8], at: usize, number: u8) -> usize
         ensures { record { at = result; bytes = text.new } ≡ show (line (do_name (do_byte self)) (number ∷ [])) (record { at = at; bytes = text.old }) }
     {
@@ -72,7 +67,7 @@ impl Do {
     }
 }
 
-// An anchor's payload: the first 50 bytes, ours 4 at 44, then the messages.
+// An anchor's payload: id, chain time and author, ours 4 at 44, the count, then the messages.
 pub fn add(
     tables: &mut [u8],
     area: &mut [u8],
@@ -83,7 +78,7 @@ pub fn add(
         × (tables.new ≡ tables_after (length area.old) tables.old t p.now)
         × (area.new ≡ area_after area.old tables.old t p.now) }
 {
-    let messages = p.get(50..).unwrap_or(&[]);
+    let messages = p.get(ANCHOR_HEAD_BYTES..).unwrap_or(&[]);
     anchors_cache::add(
         tables,
         area,
@@ -119,20 +114,13 @@ pub fn called(
         Do::Pop => pop(tables, area, t),
         Do::Commit => anchors_cache::commit(tables, area, t),
         Do::Rollback => anchors_cache::rollback(tables, area, t),
-        Do::Close | Do::ReadContinue | Do::ReadRefill => anchors_cache::close(tables, area, t),
+        Do::Close | Do::Read(_) => anchors_cache::close(tables, area, t),
     }
-}
-
-// The bytes of an anchor's record with so many messages.
-fn anchor_len(count: u16) -> usize
-    ensures { result ≡ 52 + 33 * count }
-{
-    52 + 33 * usize::from(count)
 }
 
 // Why a record is refused that is too long: malformed unless it is an anchor of its stated length; else by questions 1
 // and 5, then for too many messages.
-#[tactic(auto, using(messages_buffer::proofs::Laws::first_yes, messages_buffer::proofs::Laws::first_no_lem, refusals::proofs::Laws::refused_is_not_done, std::proofs::lemmas::Bool::Decides::nat_tests), unfolding(session_rules::specs::Said::long_number))]
+#[tactic(auto, using(messages_buffer::proofs::Laws::first_yes, messages_buffer::proofs::Laws::first_no_lem, std::proofs::lemmas::Bool::Decides::nat_tests), unfolding(session_rules::specs::Said::long_number))]
 pub fn long_refusal(
     tables: &[u8],
     area: &[u8],
@@ -145,12 +133,10 @@ pub fn long_refusal(
 {
     if number < 3
         || rows::num_at::<u16>(head, 0) != u16::from(Kind::Anchor)
-        || n != anchor_len(rows::num_at(head, 50))
+        || n != KIND_BYTES + records::anchor_bytes(rows::num_at(head, 50))
     {
         return Refusal::Malformed;
     }
-    match anchors_cache::check_cache(tables, area, t) {
-        Ok(()) => Refusal::MessagesUnsound,
-        Err(refusal) => refusal,
-    }
+    let unsound = anchors_cache::check_cache(tables, area, t).err();
+    unsound.unwrap_or(Refusal::MessagesUnsound)
 }

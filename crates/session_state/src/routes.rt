@@ -1,13 +1,15 @@
 // The routes that are listed, 34 bytes each.
+// All lent bytes and how many of them are listed: no plainer as a slice, a route goes behind the listed ones.
 ghost use Rattle.std.specs.Prelude.{◌≡◌};
 ghost use Rattle.refusals.specs.Refusals.{number};
 ghost use Rattle.session_rules.specs.Said.{route_number, placed_number, routes_with};
 
 use refusals::Refusal;
-use router::{MAX_PARTITION, MAX_ROUTES, MESSAGE_LEN, ROUTE_LEN};
+use router::{MAX_PARTITION, MAX_ROUTES, ROUTE_LEN};
+use rows::MESSAGE_LEN;
 
 // Question 3 of one route more: a place, a partition, an address that is not listed yet.
-#[tactic(auto, using(std::proofs::lemmas::Bool::Decides::nat_tests), unfolding(session_rules::specs::Said::route_number))]
+#[tactic(auto, unfolding(session_rules::specs::Said::route_number))]
 fn check_route(routes: &[u8], p: &[u8]) -> Result<(), Refusal>
     ensures { number result ≡ route_number routes.now p.now }
 {
@@ -23,7 +25,7 @@ fn check_route(routes: &[u8], p: &[u8]) -> Result<(), Refusal>
 }
 
 // The lent routes, of which n bytes are listed, must have a place for it.
-#[tactic(auto, using(std::proofs::lemmas::Bool::Decides::nat_tests), unfolding(session_rules::specs::Said::placed_number))]
+#[tactic(auto, unfolding(session_rules::specs::Said::placed_number))]
 fn check_placed(routes: &[u8], n: usize, p: &[u8]) -> Result<(), Refusal>
     ensures { number result ≡ placed_number n routes.now p.now }
 {
@@ -35,6 +37,7 @@ fn check_placed(routes: &[u8], n: usize, p: &[u8]) -> Result<(), Refusal>
 }
 
 // The route goes behind the n bytes, unless it is refused.
+#[tactic(auto, unfolding(session_rules::specs::Said::routes_with))]
 pub fn listed(routes: &mut [u8], n: usize, p: &[u8]) -> Result<(), Refusal>
     ensures { (number result ≡ placed_number n routes.old p.now) × (routes.new ≡ routes_with n routes.old p.now) }
 {

@@ -1,4 +1,5 @@
 -- Laws of bits, of the tag and of the shard rule.
+use Rattle.std.proofs.lemmas.Bool.{and_parts}
 use Prim.Native.Nat.{ℕ, suc, zero, ◌+◌, ◌-◌, ◌*◌, ◌/◌, ◌%◌, ◌^◌, ◌≤◌, ◌<◌}
 use mathlib.Core.Path.{◌≡◌, refl, sym, ap, ◌∙◌}
 use mathlib.Core.Bool.{Bool, true, false, not, ◌&&◌}
@@ -8,17 +9,13 @@ use native.Mathlib.Omega.{arith}
 use native.Mathlib.Nat.{pow-zero, pow-suc, eq-or-lt_of_le}
 use native.Mathlib.Numerals.{add-one}
 use lib.Dec.{eqb, leb}
-use Rattle.std.specs.Prelude.{Result, Ok, Err}
-use Rattle.std.specs.Result.{IsErr, IsErrAnd}
-use Rattle.refusals.specs.declared.Refusal.{Refusal}
-use Rattle.refusals.specs.Refusals.{number_of}
-use Rattle.refusals.proofs.Laws.{refused_is_not_done, handed_on}
+use Rattle.std.specs.Prelude.{Ok, Err}
 use lib.ListN.{length, get_or}
 use lib.Pow.{shr-shr, shr_lt}
 use lib.Count.{count_trailing_zeros, under}
 use borrow.Author.Tests.{eq-eqb, ne_eqb, eqb-true, eqb-false, le-leb, lt-leb, not-true}
 use Rattle.rows.specs.Rows.{pick, part}
-use Rattle.rows.proofs.Laws.{part_cons, and_true, yes_later, no_later}
+use Rattle.rows.proofs.Laws.{part_cons, yes_later, no_later}
 use Rattle.shard_ident.specs.declared.ShardIdent.{ShardIdent}
 use Rattle.refusals.specs.declared.Refusal.TheVariants.{NotAShard}
 use Rattle.shard_ident.specs.Shard.{bit, lowest_set, tag, splits_masterchain, is_shard, shard_number, same_bits, same_above_tag, same_workchain, in_shard, big_endian, is_ours, answer_of, after_question}
@@ -96,7 +93,7 @@ pub same_each : (k i a b : ℕ) → same_bits k i a b ≡ true → (j : ℕ) →
 unfolding same_bits
 same_each zero i a b h j p q = absurd (omega arith)
 same_each (suc k) i a b h j p q =
-    let both = and_true (eqb (bit i a) (bit i b)) (same_bits k (suc i) a b) h in
+    let both = and_parts (eqb (bit i a) (bit i b)) (same_bits k (suc i) a b) h in
     ⊎_elim (λ (e : i ≡ j). rw (sym e) (eqb-true _ _ both.0)) (λ (l : i < j). same_each k (suc i) a b both.1 j (omega arith) (omega arith)) (eq-or-lt_of_le p)
 
 pub each_same : (k i a b : ℕ) → ((j : ℕ) → i ≤ j → j < i + k → bit j a ≡ bit j b) → same_bits k i a b ≡ true
@@ -145,7 +142,7 @@ high_tag s n h e = rw (ne_eqb s.prefix 0 n, le-leb 3 (tag s.prefix) h, e)
 
 pub shard_prefix : (s : ShardIdent) → is_shard s ≡ true → 0 < s.prefix
 unfolding is_shard
-shard_prefix s h = let n = eqb-false s.prefix 0 (not-true _ (and_true (not (eqb s.prefix 0)) _ h).0) in omega (arith, n)
+shard_prefix s h = let n = eqb-false s.prefix 0 (not-true _ (and_parts (not (eqb s.prefix 0)) _ h).0) in omega (arith, n)
 
 -- the question's number tells its answer
 number_tells : (b : Bool) → ((pick b 0 2 ≡ zero) → b ≡ true) × ((pick b 0 2 ≡ zero → ⊥) → b ≡ false)
@@ -155,20 +152,10 @@ number_tells false = (λ e. absurd (omega arith), λ f. refl)
 pub question_yes : (s : ShardIdent) (r : ℕ) → r ≡ shard_number s → r ≡ 0 → is_shard s ≡ true
 question_yes s r e z = (number_tells (is_shard s)).0 (sym e ∙ z)
 
-pub question_no : (s : ShardIdent) (r : ℕ) → r ≡ shard_number s → (r ≡ 0 → ⊥) → is_shard s ≡ false
-question_no s r e n = (number_tells (is_shard s)).1 (λ z. n (e ∙ z))
-
 -- what each answer says
 pub refused : (s : ShardIdent) (ours : Bool) → is_shard s ≡ false → answer_of (Err NotAShard) ≡ after_question s ours
 unfolding after_question
 refused s ours e = rw e
-
--- what `check_shard` answered is handed on
-pub refused_on : (q : Result Bool Refusal) (r : Refusal) (s : ShardIdent) (ours : Bool) → IsErr q × IsErrAnd q (λ x. x ≡ r) → number_of r ≡ shard_number s → answer_of q ≡ after_question s ours
-unfolding after_question
-refused_on q r s ours h e =
-    let no = question_no s (number_of r) e (refused_is_not_done r) in
-    ap answer_of (handed_on q r h) ∙ rw (e, no)
 
 pub accepted : (s : ShardIdent) (ours : Bool) → is_shard s ≡ true → after_question s ours ≡ record { number = 0; ours = ours }
 unfolding after_question

@@ -7,6 +7,7 @@ ghost use Rattle.rows.specs.Rows.{part};
 ghost use Rattle.shard_ident.specs.Shard.{splits_masterchain, shard_number, same_workchain, same_above_tag, in_shard, big_endian, answer_of, contains_address, contains_message};
 
 use refusals::Refusal;
+use rows::MESSAGE_LEN;
 
 // A part of a workchain: the accounts whose first bits are the prefix's above its lowest set bit, the tag.
 #[repr(C)]
@@ -29,6 +30,7 @@ fn splits_masterchain(shard: ShardIdent) -> bool
 }
 
 // Question 2.
+#[tactic(auto, using(crate::proofs::Laws::tag_trailing, crate::proofs::Laws::no_prefix, crate::proofs::Laws::low_tag, crate::proofs::Laws::split_masterchain, crate::proofs::Laws::high_tag))]
 pub fn check_shard(shard: ShardIdent) -> Result<(), Refusal>
     ensures { number result ≡ shard_number shard }
 {
@@ -39,6 +41,7 @@ pub fn check_shard(shard: ShardIdent) -> Result<(), Refusal>
 }
 
 // A message's workchain byte is signed.
+#[tactic(auto, using(crate::proofs::Signed::same_byte), unfolding(crate::specs::Shard::same_workchain))]
 fn same_workchain(workchain: i32, byte: u8) -> bool
     ensures { result ≡ same_workchain workchain byte }
 {
@@ -47,6 +50,7 @@ fn same_workchain(workchain: i32, byte: u8) -> bool
 
 // The bits above the tag are equal. The shift goes in two steps, since past a tag at bit 63 it is 64 bits, which one
 // shift does not take.
+#[tactic(auto, using(crate::proofs::Laws::tag_trailing, crate::proofs::Laws::half, crate::proofs::Laws::above_tag_shift))]
 fn same_above_tag(prefix: u64, account: u64) -> bool
     requires { 0 < prefix }
     ensures { result ≡ same_above_tag prefix account }
@@ -63,6 +67,7 @@ fn in_shard(shard: ShardIdent, workchain: u8, account: u64) -> bool
 }
 
 // Whether an account, given by its first 64 bits, of a workchain, given by its signed byte, is the shard's.
+#[tactic(auto, using(refusals::proofs::Laws::handed_on, refusals::proofs::Laws::number_is_some, crate::proofs::Laws::answered, crate::proofs::Laws::question_yes, crate::proofs::Laws::shard_prefix), unfolding(crate::specs::Shard::after_question))]
 pub fn contains_address(shard: ShardIdent, workchain: u8, account: u64) -> Result<bool, Refusal>
     ensures { answer_of result ≡ contains_address shard workchain account }
 {
@@ -70,7 +75,9 @@ pub fn contains_address(shard: ShardIdent, workchain: u8, account: u64) -> Resul
     Ok(in_shard(shard, workchain, account))
 }
 
-// The account's first 64 bits, the first byte the highest. In this form the eight bytes are one load of the machine.
+// The account's first 64 bits, the first byte the highest. By `first_chunk` no plainer: it answers an `Option`,
+// where a message always has them.
+#[tactic(auto, using(crate::proofs::Laws::be_eight))]
 fn first_word(message: &[u8]) -> u64
     requires { 33 ≤ length message.now }
     ensures { result ≡ big_endian (part 1 8 message.now) }
@@ -83,9 +90,10 @@ fn first_word(message: &[u8]) -> u64
 
 // Whether a message, its workchain byte and its account's 32 bytes, is the shard's. Fewer bytes are no message and not
 // ours; what stands after them is not looked at.
+#[tactic(auto, using(refusals::proofs::Laws::handed_on, refusals::proofs::Laws::number_is_some, crate::proofs::Laws::answered, crate::proofs::Laws::question_yes, crate::proofs::Laws::shard_prefix, crate::proofs::Laws::short_message, crate::proofs::Laws::message_ours), unfolding(crate::specs::Shard::after_question))]
 pub fn contains_message(shard: ShardIdent, message: &[u8]) -> Result<bool, Refusal>
     ensures { answer_of result ≡ contains_message shard message.now }
 {
     check_shard(shard)?;
-    Ok(33 <= message.len() && in_shard(shard, message[0], first_word(message)))
+    Ok(MESSAGE_LEN <= message.len() && in_shard(shard, message[0], first_word(message)))
 }

@@ -57,6 +57,7 @@ pub fn read<R: Read>(input: &mut R, bytes: &mut [u8]) -> io::Result<Option<usize
 }
 
 /// Reads till the bytes are full or the input ends, and answers how many came.
+// A `while`, for it counts bytes that arrive, which no iterator yields.
 pub fn fill<R: Read>(input: &mut R, bytes: &mut [u8]) -> Result<usize, Cut>
     ensures within { came result ≤ length bytes.new }
     ensures taken { Consumes (R.remaining input.old) (R.remaining input.new) (take (came result) bytes.new) }
@@ -78,14 +79,14 @@ pub fn write_all<W: Write>(output: &mut W, bytes: &[u8]) -> io::Result<()>
     ensures written { OnOk result (Appends (W.contents output.old) (W.contents output.new) bytes.now) }
     ensures front { AppendsFront (W.contents output.old) (W.contents output.new) (length bytes.now) bytes.now }
 {
-    let mut at = 0;
+    let mut left = bytes;
     for _ in 0..u64::MAX {
-        if bytes.len() <= at {
+        if left.is_empty() {
             return Ok(());
         }
-        match output.write(&bytes[at..]) {
+        match output.write(left) {
             Ok(0) => return Err(ErrorKind::WriteZero.into()),
-            Ok(n) => at += n,
+            Ok(n) => left = &left[n..],
             Err(error) => passed(error)?,
         }
     }

@@ -1,11 +1,11 @@
 -- Document 01's first line, and the least and the greatest number.
 use mathlib.Core.Path.{◌≡◌, refl}
 use mathlib.Core.List.{[], ◌∷◌}
-use Rattle.text.specs.Shown.{places, decimal, spaced, line}
+use Rattle.text.specs.Shown.{places, decimal, marked, line}
 
 -- open 0
 pub open_line : line (111 ∷ 112 ∷ 101 ∷ 110 ∷ []) (0 ∷ []) ≡ 111 ∷ 112 ∷ 101 ∷ 110 ∷ 32 ∷ 48 ∷ 10 ∷ []
-unfolding line spaced decimal places
+unfolding line marked decimal places
 open_line = refl
 
 pub least_decimal : decimal 0 ≡ 48 ∷ []

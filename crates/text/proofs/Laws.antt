@@ -38,6 +38,14 @@ show_nothing p =
     let e : p.at + 0 ≡ p.at = omega arith in
     rw (take-nil {A = ℕ} (length p.bytes - p.at)) (ap (λ (n : ℕ). record { at = n; bytes = p.bytes }) e)
 
+-- ---- past the end nothing is shown
+pub show_past : (text : List ℕ) (at : ℕ) (l : List ℕ) → length l < at → record { at = at; bytes = l } ≡ show text (record { at = at; bytes = l })
+unfolding show
+show_past text at l h =
+    let z : length l - at ≡ 0 = omega arith in
+    let e : at + 0 ≡ at = omega arith in
+    rw (z, e)
+
 -- ---- a store of what fits; past the end nothing does
 stored : (at : ℕ) (vs l : List ℕ) → length vs ≤ length l - at → written at vs l ≡ sets l at vs
 unfolding written
@@ -57,18 +65,11 @@ unfolding marked
 show_marked mark n p q r e f =
     f ∙ (ap (show (decimal n)) e ∙ (show_on (mark ∷ []) (decimal n) p ∙ ap (λ (l : List ℕ). show (mark ∷ l) p) (sym (append-nil (decimal n)))))
 
--- a space is one of the marks
-pub spaced_marked : (l : List ℕ) → spaced l ≡ marked 32 l
-unfolding spaced marked
-spaced_marked [] = refl
-spaced_marked (n ∷ l) = ap (λ (m : List ℕ). 32 ∷ (decimal n ++ m)) (spaced_marked l)
-
-pub show_line : (name numbers : List ℕ) (p q r s : Text) → q ≡ show name p → r ≡ show (marked 32 numbers) q → s ≡ show (10 ∷ []) r → s ≡ show (line name numbers) p
+pub show_line : (name numbers : List ℕ) (p q r s : Text) → q ≡ show name p → r ≡ show (spaced numbers) q → s ≡ show (10 ∷ []) r → s ≡ show (line name numbers) p
 unfolding line
 show_line name numbers p q r s d e f =
-    let spaces = spaced_marked numbers in
     f
-    ∙ (ap (show (10 ∷ [])) (rw (← spaces) at (e ∙ ap (show (marked 32 numbers)) d))
+    ∙ (ap (show (10 ∷ [])) (e ∙ ap (show (spaced numbers)) d)
     ∙ (show_on (spaced numbers) (10 ∷ []) (show name p)
     ∙ show_on name (spaced numbers ++ (10 ∷ [])) p))
 

@@ -5,11 +5,11 @@ use mathlib.Core.List.{List, [], ◌∷◌, ◌++◌}
 use native.Mathlib.Omega.{arith}
 use lib.ListN.{length, take, length-append, length-take}
 use lib.Seq.{sets, length-sets, take_all}
-use Rattle.text.specs.Shown.{Text, show, decimal, spaced, line}
+use Rattle.text.specs.Shown.{Text, show, decimal, marked, spaced, line}
 use Rattle.text.proofs.Decimals.{a_decimal_has_1_to_20_digits}
 
 pub spaced_numbers_length : (l : List ℕ) → length (spaced l) ≤ 21 * length l
-unfolding spaced
+unfolding marked
 spaced_numbers_length [] = omega arith
 spaced_numbers_length (n ∷ l) =
     let d = (a_decimal_has_1_to_20_digits n).1 in

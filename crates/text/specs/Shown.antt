@@ -15,6 +15,10 @@ show text p =
     let fitting = take (length p.bytes - p.at) text in
     record { at = p.at + length fitting; bytes = sets p.bytes p.at fitting }
 
+-- a function that puts a text in bytes from a place on: it answers the place behind it, and leaves the bytes with it
+abbrev pub Shows : List ℕ → ℕ → List ℕ → ℕ → List ℕ → Type 0
+Shows text at old result new = record { at = result; bytes = new } ≡ show text (record { at = at; bytes = old })
+
 -- how many decimal digits a number below 10 ^ (fuel + 1) has
 unfoldable pub places : ℕ → ℕ → ℕ
 places zero n = 1
@@ -30,9 +34,8 @@ marked mark [] = []
 marked mark (n ∷ l) = mark ∷ (decimal n ++ marked mark l)
 
 -- numbers, each behind a space
-unfoldable pub spaced : List ℕ → List ℕ
-spaced [] = []
-spaced (n ∷ l) = 32 ∷ (decimal n ++ spaced l)
+abbrev pub spaced : List ℕ → List ℕ
+spaced l = marked 32 l
 
 -- a number behind a space, then numbers, each behind a colon
 unfoldable pub joined : ℕ → List ℕ → List ℕ

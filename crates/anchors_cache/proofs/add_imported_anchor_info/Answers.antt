@@ -1,6 +1,6 @@
 use Rattle.anchors_cache.specs.Calls.{add_info_call, answer}
 use Rattle.anchors_cache.proofs.Refused.{done_refused, on_refused}
-use Rattle.anchors_cache.proofs.Asked.{info_refusal, info_yes, refusal_parts}
+use Rattle.anchors_cache.proofs.Asked.{info_refusal, info_yes, asked_inside}
 use mathlib.Core.Path.{◌≡◌, sym, ◌∙◌}
 use lib.ListN.{length}
 use borrow.Author.Rules.{rules}
@@ -8,15 +8,15 @@ use Rattle.anchors_cache.proofs.add_imported_anchor_info.Goals as goal
 
 pub returns-in_err-check_add_info : goal.returns-in_err-check_add_info
 unfolding add_info_call
-returns-in_err-check_add_info c = (done_refused _ _ _ _ c.in_err-check_add_info.ensures _ c.from_residual.ensures, sym (on_refused _ _ _ _ c.in_err-check_add_info.ensures))
+returns-in_err-check_add_info c = (done_refused _ _ _ c.in_err-check_add_info.ensures _ _ c.from_residual.ensures, sym (on_refused _ _ _ _ c.in_err-check_add_info.ensures))
 
 pub in_history-requires : goal.in_history-requires
 in_history-requires c =
     let c-args = c.args in
     let e = sym c.in_ok-check_add_info.ensures in
-    let p = refusal_parts (length c-args.area.now) c-args.tables.now c-args.t (info_refusal _ _ _ e) in
+    let i = asked_inside (length c-args.area.now) c-args.tables.now c-args.t (info_refusal _ _ _ e) in
     let w : length c.info_row-row.result ≡ 52 = search rules in
-    (p.tall, w, p.history_within, (info_yes _ _ _ e).0)
+    (i, w, (info_yes _ _ _ e).0)
 
 pub returns : goal.returns
 unfolding add_info_call answer

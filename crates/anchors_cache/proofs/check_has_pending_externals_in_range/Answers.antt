@@ -2,15 +2,10 @@ use Rattle.anchors_cache.specs.declared.CachedAnchor.{CachedAnchor}
 use Rattle.cache_rules.specs.Rules.{pending_up_to}
 use Rattle.anchors_cache.specs.Calls.{pending_in_range_call, flag_answer}
 use Rattle.anchors_cache.proofs.Laws.{anchors_none, anchors_cons}
-use Rattle.anchors_cache.proofs.Refused.{flag_refused}
 use Rattle.anchors_cache.proofs.Asked.{seen_parts, front_decides}
-use mathlib.Core.Path.{sym, ap, ◌∙◌}
+use mathlib.Core.Path.{sym, ap}
 use native.Mathlib.Omega.{arith}
 use Rattle.anchors_cache.proofs.check_has_pending_externals_in_range.Goals as goal
-
-pub returns-in_err-check_seen : goal.returns-in_err-check_seen
-unfolding pending_in_range_call
-returns-in_err-check_seen c = flag_refused _ _ c.in_err-check_seen.ensures _ _ c.from_residual.ensures
 
 pub returns-then-c-eq0 : goal.returns-then-c-eq0
 unfolding pending_in_range_call flag_answer pending_up_to

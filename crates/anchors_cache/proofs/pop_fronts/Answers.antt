@@ -1,21 +1,11 @@
-use Rattle.anchors_cache.specs.Calls.{pops_call, answer}
 use Rattle.anchors_cache.proofs.Asked.{refusal_parts}
-use Rattle.anchors_cache.proofs.Refused.{done_refused}
-use mathlib.Core.Path.{sym, ◌∙◌}
+use mathlib.Core.Path.{sym}
 use native.Mathlib.Omega.{arith}
 use lib.ListN.{length}
 use Rattle.anchors_cache.proofs.pop_fronts.Goals as goal
-
-pub returns-in_err-check : goal.returns-in_err-check
-unfolding pops_call
-returns-in_err-check c = done_refused _ _ _ _ c.in_err-check.ensures _ c.from_residual.ensures
 
 pub popped_times-requires : goal.popped_times-requires
 popped_times-requires c =
     let c-args = c.args in
     let p = refusal_parts (length c-args.area.now) c-args.tables.now c-args.t (sym c.in_ok-check.ensures) in
     record { tall = p.tall; anchors_within = p.anchors_within; history_within = p.history_within; in_memory = omega (arith, p.in_area) }
-
-pub returns : goal.returns
-unfolding pops_call answer
-returns c = rw ((sym c.in_ok-check.ensures), c.with_cache.ensures, c.popped_times.ensures)

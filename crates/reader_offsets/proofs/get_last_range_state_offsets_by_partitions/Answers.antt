@@ -1,33 +1,21 @@
--- Each return is the answer to the first "no", or the rule's.
-use Rattle.refusals.proofs.Laws.{handed_on, refused_is_not_done}
-use mathlib.Core.Path.{◌≡◌, sym, ap, ◌∙◌}
-use mathlib.Core.Bool.{true}
-use native.Mathlib.Omega.{arith}
-use lib.ListN.{length}
-use Rattle.reader_rules.specs.State.{state_number, max_ranges}
+use Rattle.std.proofs.Common.{ap, ◌∙◌, rules, arith, ◌-◌, length, true}
+use lib.ListN.{length-drop}
 use Rattle.reader_rules.specs.Offsets.{shown_by}
+use Rattle.reader_offsets.proofs.Numbers.{partitions_done}
+use Rattle.reader_offsets.proofs.Changes.{last_fits}
 use Rattle.reader_offsets.specs.Calls.{last_offsets_call}
-use Rattle.reader_offsets.proofs.Numbers.{partitions_refused, partitions_done}
-use Rattle.reader_offsets.proofs.Changes.{last_part, last_fits}
-use Rattle.externals_reader.proofs.Sound.{sound_parts}
 use Rattle.reader_offsets.proofs.get_last_range_state_offsets_by_partitions.Goals as goal
-
-pub returns-in_err-check_state : goal.returns-in_err-check_state
-unfolding last_offsets_call
-returns-in_err-check_state c = rw (handed_on _ _ c.from_residual.ensures) (partitions_refused _ _ (sym c.in_err-check_state.ensures) (refused_is_not_done _) _)
 
 pub by_partitions-requires : goal.by_partitions-requires
 by_partitions-requires c =
-    let c-last-place = c.last_place-at in
     let s = c.args.reader in
-    let sound : state_number s.reader_state ≡ 0 = sym c.in_ok-check_state.ensures in
-    let n : length s.reader_state.ranges ≡ max_ranges = c.well_formed.0.1.1.1.1.1.1.1.0.1.1.0.1.0.1 in
-    (omega (arith, (sound_parts s.reader_state sound).0, c-last-place.ensures), last_fits s sound (omega (arith, n, (sound_parts s.reader_state sound).0)) _ c-last-place.ensures)
+    let e = c.in_ok-held_of.ensures in
+    let l = c.in_ok-held_of.field-0.now in
+    let k = length-drop (length l - 1) l in
+    (rw c.last_only-last.ensures (omega (arith, k, e.few.0, e.few.1)), rw (c.last_only-last.ensures, e.held) (last_fits s e.number (search rules)))
 
 pub returns : goal.returns
 unfolding last_offsets_call
 returns c =
-    let s = c.args.reader in
-    let sound : state_number s.reader_state ≡ 0 = sym c.in_ok-check_state.ensures in
-    let n : length s.reader_state.ranges ≡ max_ranges = c.well_formed.0.1.1.1.1.1.1.1.0.1.1.0.1.0.1 in
-    partitions_done _ sound _ _ (c.by_partitions.ensures ∙ ap (shown_by true) (last_part s.reader_state.ranges s.reader_state.len (omega (arith, n, (sound_parts s.reader_state sound).0)) _ c.last_place-at.ensures))
+    let e = c.in_ok-held_of.ensures in
+    partitions_done _ _ _ e.number (c.by_partitions.ensures ∙ ap (shown_by true) (rw e.held at c.last_only-last.ensures))

@@ -1,47 +1,16 @@
--- Each return is the answer to the first "no", or the rule's.
-use Rattle.refusals.proofs.Laws.{handed_on, refused_is_not_done}
-use mathlib.Core.Path.{◌≡◌, refl, sym, ◌∙◌}
-use native.Mathlib.Omega.{arith}
-use lib.ListN.{length}
-use borrow.Author.Tests.{lt-ltb, le-ltb}
-use Rattle.reader_rules.specs.State.{state_number, max_ranges}
+use Rattle.std.proofs.Common.{refl, ◌∙◌, rules}
+use borrow.Author.Tests.{lt-ltb}
 use Rattle.reader_rules.specs.Offsets.{from_position}
+use Rattle.reader_offsets.proofs.Numbers.{done}
+use Rattle.reader_offsets.proofs.There.{present}
+use Rattle.reader_offsets.proofs.Changes.{last_held, last_set}
 use Rattle.reader_offsets.specs.Calls.{set_from_call}
-use Rattle.reader_offsets.proofs.Numbers.{refused_5, refused_15, done}
-use Rattle.reader_offsets.proofs.Changes.{last_set}
-use Rattle.externals_reader.proofs.Sound.{sound_parts}
 use Rattle.reader_offsets.proofs.set_from_to_current_position_in_last_range_state.Goals as goal
-
-pub returns-in_err-check_state : goal.returns-in_err-check_state
-unfolding set_from_call
-returns-in_err-check_state c =
-    let s = c.args.reader in
-    rw (handed_on _ _ c.from_residual.ensures) (refused_5 s _ _ _ _ c.in_err-check_state.ensures (refused_is_not_done _))
-
-pub returns-then-state-eq0 : goal.returns-then-state-eq0
-unfolding set_from_call
-returns-then-state-eq0 c =
-    let s = c.args.reader in
-    let sound : state_number s.reader_state ≡ 0 = sym c.in_ok-check_state.ensures in
-    refused_15 s _ _ _ sound (le-ltb 0 s.reader_state.len (omega (arith, c.if-state-eq0.true)))
-
-pub last_range-last-requires : goal.last_range-last-requires
-last_range-last-requires c =
-    let s = c.args.reader in
-    let sound : state_number s.reader_state ≡ 0 = sym c.in_ok-check_state.ensures in
-    (omega (arith, c.if-state-eq0.false), (sound_parts s.reader_state sound).0)
-
-pub with_range-requires : goal.with_range-requires
-with_range-requires c =
-    let s = c.args.reader in
-    let sound : state_number s.reader_state ≡ 0 = sym c.in_ok-check_state.ensures in
-    (omega (arith, c.if-state-eq0.false), (sound_parts s.reader_state sound).0)
 
 pub returns : goal.returns
 unfolding set_from_call
 returns c =
-    let c-last-range = c.last_range-last in
     let s = c.args.reader in
-    let sound : state_number s.reader_state ≡ 0 = sym c.in_ok-check_state.ensures in
-    let n : length s.reader_state.ranges ≡ max_ranges = c.well_formed.0.1.1.1.1.1.1.1.0.1.1.0.1.0.1 in
-    done s _ _ _ sound (lt-ltb 0 s.reader_state.len (omega (arith, c.if-state-eq0.false))) refl _ (c.with_range.ensures ∙ last_set s sound (omega (arith, n, (sound_parts s.reader_state sound).0)) from_position _ c-last-range.result refl c-last-range.ensures)
+    let sound = c.in_ok-held.ensures.number in
+    let w = last_held s sound (search rules) (present _ _ _ (rw c.in_ok-held.ensures.held at c.last_range.ensures) _ c.in_ok-last.ensures.value) in
+    done s _ _ _ sound (lt-ltb 0 s.reader_state.len w.0) refl _ (c.with_range.ensures ∙ last_set s sound (search rules) from_position _ c.in_ok-last.last refl w.1)

@@ -8,7 +8,7 @@ use borrow.Author.Tests.{tests}
 use Rattle.std.proofs.lemmas.Iterator.Search.{all_from_yields_List}
 use Rattle.router.specs.Router.{route_rows}
 use Rattle.router.proofs.Laws.{exist_all}
-use Rattle.router.proofs.Chunks.{YieldsList-from_chunks_exact}
+use Rattle.rows.proofs.Chunks.{YieldsList-from_chunks_exact}
 use Rattle.router.proofs.partitions_exist.Goals as goal
 
 pub returns : goal.returns

@@ -1,10 +1,15 @@
-use Rattle.rows.proofs.Laws.{move_more}
+use Rattle.rows.specs.Rows.{part}
+use Rattle.rows.proofs.Laws.{part_length}
+use Prim.Native.Nat.{◌+◌, ◌-◌}
+use mathlib.Core.Path.{◌≡◌, ◌∙◌}
 use native.Mathlib.Omega.{arith}
-use lib.ListN.{length-set}
+use lib.ListN.{length}
+use lib.Seq.{sets-eq}
 use Rattle.rows.proofs.move_down_in.Goals as goal
 
-pub loop-i-preserved : goal.loop-i-preserved
-loop-i-preserved c =
-    let s = c.loop-i in
+pub returns : goal.returns
+returns c =
     let a = c.args in
-    (simp length-set s.invariant.0, rw s.invariant.1 (move_more _ a.s.now a.from a.to s.i (omega arith) (omega arith)))
+    let e : a.from + a.n - a.from ≡ a.n = omega arith in
+    let k : length (part a.from a.n a.s.now) ≡ a.n = part_length a.s.now a.from a.n (omega arith) in
+    c.copy_within.ensures.after ∙ rw (e, sets-eq (part a.from a.n a.s.now) a.s.now a.to (omega arith), k)

@@ -10,5 +10,5 @@ pub returns : goal.returns
 returns c =
     let a = c.args in
     let full : length a.a.author ≡ author_bytes = search rules in
-    rw (c.put_le-4.ensures, c.put_le-3.ensures, c.copy_in.ensures, c.put_le-2.ensures, c.put_le.ensures)
+    rw (c.put-4.ensures, c.put-3.ensures, c.copy_in.ensures, c.put-2.ensures, c.put.ensures)
     (anchor_written (row_for a.a a.ours a.k) full _ refl)

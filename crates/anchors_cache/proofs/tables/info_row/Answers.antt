@@ -9,5 +9,5 @@ pub returns : goal.returns
 returns c =
     let a = c.args in
     let full : length a.author ≡ author_bytes = c.well_formed.1.0.1.0.1 in
-    rw (c.copy_in.ensures, c.put_le-4.ensures, c.put_le-3.ensures, c.put_le-2.ensures, c.put_le.ensures)
+    rw (c.copy_in.ensures, c.put-4.ensures, c.put-3.ensures, c.put-2.ensures, c.put.ensures)
     (info_written (info_with a.e a.author) full _ refl)

@@ -21,6 +21,7 @@ returns c =
     let n = length a.area.now in
     let k = length a.messages.now in
     let w : length a.row.now ≡ 50 = c.requires.2 in
+    let lies = c.requires.0 in
     let p = placed_fits history_bytes (50 * first) (50 * len) 50 anchor_bytes (length a.tables.now) (omega arith) (omega arith) (omega arith) first in
     let q = append_fits history_bytes (50 * first) (50 * len) 50 anchor_bytes (length a.tables.now) (omega arith) (omega arith) (omega arith) a.row.now a.tables.now w refl in
     let u = placed_fits 0 (33 * base) (33 * a.used) k n n (omega arith) (omega arith) (omega arith) base in

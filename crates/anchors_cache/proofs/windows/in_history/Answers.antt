@@ -15,6 +15,7 @@ returns c =
     let c-append = c.append-at in
     let a = c.args in
     let w : length a.row.now ≡ 52 = c.requires.1 in
+    let lies = c.requires.0 in
     let hf = a.c.history_first in
     let hl = a.c.history_len in
     let p = placed_fits 0 (52 * hf) (52 * hl) 52 history_bytes (length a.tables.now) (omega arith) (omega arith) (omega arith) hf in

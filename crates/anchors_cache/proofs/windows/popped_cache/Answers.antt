@@ -18,7 +18,7 @@ returns c =
     let e = c.anchor_at-a.ensures.0 in
     rw (
       anchors_cons a.cache.first a.cache.len a.tables.now (omega arith),
-      c.fresh_len-left.ensures,
+      rw (c.of.ensures.0, c.of.ensures.1, c.of.ensures.2) at c.fresh_len-left.ensures,
       ap (λ (x : CachedAnchor). x.chain_time.0) e,
       ap (λ (x : CachedAnchor). x.count) e,
     )

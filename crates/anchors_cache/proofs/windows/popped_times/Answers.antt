@@ -2,11 +2,6 @@ use Rattle.std.proofs.Common.{arith}
 use Rattle.anchors_cache.proofs.Laws.{popped_lies, popped_len, times_more, times_none, times_empty}
 use Rattle.anchors_cache.proofs.windows.popped_times.Goals as goal
 
-pub popped_cache-c-requires : goal.popped_cache-c-requires
-popped_cache-c-requires c =
-    let p = c.loop.invariant.0 in
-    (p.tall, p.anchors_within, p.history_within, omega (arith, p.in_memory))
-
 pub loop-preserved : goal.loop-preserved
 loop-preserved c =
     let p = popped_lies c.args.tables.now c.loop.c c.loop.invariant.0 in

@@ -1,58 +1,55 @@
-use Rattle.std.proofs.Common.{rules, ℕ, ap, sym, ◌∙◌, get_or, length-set, refl, arith}
+use Rattle.std.proofs.Common.{rules, arith, drop, sym, ◌∙◌, ◌++◌}
 use Rattle.refusals.proofs.Laws.{handed_on}
-use Rattle.externals_reader.proofs.TurnLaws.{turning_start, turning_next, turning_last, turning_refused, turn_wrote, wrote_told, next_room, all_done, all_refused, next_done, next_refused, window_fits}
+use Rattle.externals_reader.proofs.TurnLaws.{part_done, part_long, part_stopped, wrote_told, next_room, next_ready, all_done, all_refused, next_done, next_refused, window_fits}
+use Rattle.reader_rules.specs.Rules.{at_entry, read_of, turns}
+use Rattle.range_rules.specs.Rules.{silent}
+use Rattle.range_reader.specs.Ready.{Wrote}
+use Rattle.externals_reader.specs.Calls.{window_read}
 use Rattle.externals_reader.specs.Ready.{so_far_told}
-use Rattle.reader_rules.specs.State.{no_range}
+use Rattle.externals_reader.proofs.turns.ranges_read.Goals.{In_ok-so_far}
 use Rattle.externals_reader.proofs.turns.ranges_read.Goals as goal
-use Rattle.externals_reader.proofs.turns.ranges_read.Goals.{else-loop-at-test, then-loop-at-test+then-s}
 
-pub loop-at-init : goal.loop-at-init
-loop-at-init c = let t = turning_start _ (window_fits c.args.tables.now c.args.area.now c.args.t c.args.routes.now c.args.x) _ c.args.write _ _ c.requires in (search rules, rw c.nothing_read-s.ensures t)
-
-pub returns-in_err-done : goal.returns-in_err-done
-returns-in_err-done c =
+-- what the turns of all have come to
+turned : (c : In_ok-so_far) → let a = c.args in
+    Wrote a.write 0 a.out.now c.turns_taken.new.out (read_of (so_far_told c.in_ok-so_far.so_far) (c.turns_taken.new.ranges ++ drop a.start.len a.start.ranges) a.start.len) (turns (window_read a.lent.tables.now a.lent.area.now a.t a.lent.routes.now a.x) a.x a.start.len 0 (silent (at_entry a.start)))
+turned c =
     let a = c.args in
-    let l = c.loop-at in
-    let w = c.in_err-done.ensures.at l.ranges l.at a.start.len refl in
-    all_refused _ (window_fits a.tables.now a.area.now a.t a.routes.now a.x) _ _ _ _ c.requires _ _ (turning_refused _ _ _ _ _ _ _ _ _ l.invariant.1 c.loop-at-test.true c.if-s.false _ _ w) _ (handed_on _ _ c.from_residual.ensures)
+    part_done _ _ _ a.start.ranges a.start.len (omega arith) _ _ _ _ (c.in_ok-so_far.ensures (drop a.start.len a.start.ranges))
 
-pub loop-at-preserved : goal.loop-at-preserved
-loop-at-preserved c =
-    let l = c.loop-at in
-    (simp length-set l.invariant.0, turning_next _ _ _ _ _ _ _ _ _ l.invariant.1 c.loop-at-test.true c.if-s.false _ _ (turn_wrote _ _ _ _ _ _ _ _ _ (c.in_ok-done.ensures.at l.ranges l.at c.args.start.len refl)))
+pub returns-in_err-so_far : goal.returns-in_err-so_far
+returns-in_err-so_far c =
+    let a = c.args in
+    let w = c.in_err-so_far.ensures (drop a.start.len a.start.ranges) in
+    all_refused _ (window_fits a.lent.tables.now a.lent.area.now a.t a.lent.routes.now a.x) _ _ _ _ c.requires _ _ (part_stopped _ _ _ a.start.ranges a.start.len (omega arith) _ _ _ (record { value = w.value; out = w.out })) _ (handed_on _ _ c.from_residual.ensures)
 
 pub returns-then-not-wants_next : goal.returns-then-not-wants_next
 returns-then-not-wants_next c =
     let a = c.args in
-    let l = c.loop-at in
-    let fits = window_fits a.tables.now a.area.now a.t a.routes.now a.x in
-    let whole = turning_last _ _ _ _ _ _ _ _ _ l.invariant.1 (λ p. elim c.loop-at-test.branch [ else-loop-at-test w ↦ absurd (omega arith) | then-loop-at-test+then-s w ↦ w.if-s.true ]) in
-    let last = ap (λ (k : ℕ). get_or l.ranges k no_range) (sym c.last_place.ensures) in
-    wrote_told _ _ _ _ _ (all_done _ fits _ _ _ _ c.requires (so_far_told l.s) l.ranges a.start.len _ whole (sym (c.wants_next.ensures l.ranges last) ∙ c.if-not-wants_next.true))
+    let w = turned (goal.at.returns-then-not-wants_next c).In_ok-so_far in
+    wrote_told _ _ _ _ _ (all_done _ (window_fits a.lent.tables.now a.lent.area.now a.t a.lent.routes.now a.x) _ _ _ _ c.requires _ _ _ _ w (sym (c.wants_next.ensures _ c.last_range-last.ensures) ∙ c.if-not-wants_next.true))
+
+pub turn-requires : goal.turn-requires
+turn-requires c =
+    let a = c.args in
+    let w = turned (goal.at.turn-requires c).In_ok-so_far in
+    next_ready _ (window_fits a.lent.tables.now a.lent.area.now a.t a.lent.routes.now a.x) _ _ _ _ c.requires _ _ _ _ w
 
 pub returns-in_err-more : goal.returns-in_err-more
 returns-in_err-more c =
     let a = c.args in
-    let l = c.loop-at in
-    let fits = window_fits a.tables.now a.area.now a.t a.routes.now a.x in
-    let whole = turning_last _ _ _ _ _ _ _ _ _ l.invariant.1 (λ p. elim c.loop-at-test.branch [ else-loop-at-test w ↦ absurd (omega arith) | then-loop-at-test+then-s w ↦ w.if-s.true ]) in
-    let last = ap (λ (k : ℕ). get_or l.ranges k no_range) (sym c.last_place.ensures) in
-    next_refused _ fits _ _ _ _ c.requires (so_far_told l.s) l.ranges a.start.len _ whole (sym (c.wants_next.ensures l.ranges last) ∙ c.if-not-wants_next.false) l.invariant.0 _ (c.appended_range-fresh.ensures l.ranges last) _ _ c.in_err-more.ensures _ (handed_on _ _ c.from_residual-in_err-more.ensures)
+    let w = turned (goal.at.returns-in_err-more c).In_ok-so_far in
+    let last = c.last_range-last.ensures in
+    next_refused _ (window_fits a.lent.tables.now a.lent.area.now a.t a.lent.routes.now a.x) _ _ _ _ c.requires _ _ _ _ w (sym (c.wants_next.ensures _ last) ∙ c.if-not-wants_next.false) (part_long a.start.ranges _ a.start.len (omega arith) c.turns_taken.auto.ranges (search rules)) _ (c.appended_range-fresh.ensures _ a.start.len last) _ _ c.in_err-more.ensures _ (handed_on _ _ c.from_residual-in_err-more.ensures)
 
 pub bounds-ranges-len : goal.bounds-ranges-len
 bounds-ranges-len c =
     let a = c.args in
-    let l = c.loop-at in
-    let fits = window_fits a.tables.now a.area.now a.t a.routes.now a.x in
-    let whole = turning_last _ _ _ _ _ _ _ _ _ l.invariant.1 (λ p. elim c.loop-at-test.branch [ else-loop-at-test w ↦ absurd (omega arith) | then-loop-at-test+then-s w ↦ w.if-s.true ]) in
-    let last = ap (λ (k : ℕ). get_or l.ranges k no_range) (sym c.last_place.ensures) in
-    next_room _ fits _ _ _ _ c.requires (so_far_told l.s) l.ranges a.start.len _ whole (sym (c.wants_next.ensures l.ranges last) ∙ c.if-not-wants_next.false)
+    let w = turned (goal.at.bounds-ranges-len c).In_ok-so_far in
+    next_room _ (window_fits a.lent.tables.now a.lent.area.now a.t a.lent.routes.now a.x) _ _ _ _ c.requires _ _ _ _ w (sym (c.wants_next.ensures _ c.last_range-last.ensures) ∙ c.if-not-wants_next.false)
 
 pub returns : goal.returns
 returns c =
     let a = c.args in
-    let l = c.loop-at in
-    let fits = window_fits a.tables.now a.area.now a.t a.routes.now a.x in
-    let whole = turning_last _ _ _ _ _ _ _ _ _ l.invariant.1 (λ p. elim c.loop-at-test.branch [ else-loop-at-test w ↦ absurd (omega arith) | then-loop-at-test+then-s w ↦ w.if-s.true ]) in
-    let last = ap (λ (k : ℕ). get_or l.ranges k no_range) (sym c.last_place.ensures) in
-    wrote_told _ _ _ _ _ (next_done _ fits _ _ _ _ c.requires (so_far_told l.s) l.ranges a.start.len _ whole (sym (c.wants_next.ensures l.ranges last) ∙ c.if-not-wants_next.false) l.invariant.0 _ (c.appended_range-fresh.ensures l.ranges last) _ _ c.in_ok-more.ensures)
+    let w = turned (goal.at.returns c).In_ok-so_far in
+    let last = c.last_range-last.ensures in
+    wrote_told _ _ _ _ _ (next_done _ (window_fits a.lent.tables.now a.lent.area.now a.t a.lent.routes.now a.x) _ _ _ _ c.requires _ _ _ _ w (sym (c.wants_next.ensures _ last) ∙ c.if-not-wants_next.false) (part_long a.start.ranges _ a.start.len (omega arith) c.turns_taken.auto.ranges (search rules)) _ (c.appended_range-fresh.ensures _ a.start.len last) _ _ c.in_ok-more.ensures)

@@ -15,15 +15,15 @@ returns-then-is_skipped c = turn_skipped _ _ _ _ _ _ c.if-range.false (sym c.is_
 pub returns-in_err-read : goal.returns-in_err-read
 returns-in_err-read c =
     let a = c.args in
-    turn_refused a.tables.now a.area.now a.t a.routes.now a.x (so_far_told a.s) a.range a.write a.out.now c.requires (done_of a.t c.pop_fronts.result) c.pop_fronts.ensures _ _ (rw (state_left a.t c.unwrap_or-now.result c.pop_fronts.result c.unwrap_or-now.ensures) at c.in_err-read.ensures) c.if-range.false (sym c.is_skipped.ensures ∙ c.if-is_skipped.false) _ _ (handed_on _ _ c.from_residual.ensures) refl
+    turn_refused a.lent.tables.now a.lent.area.now a.t a.lent.routes.now a.x (so_far_told a.s) a.range a.write a.out.now c.requires (done_of a.t c.pop_fronts.result) c.pop_fronts.ensures _ _ (rw (state_left a.t c.unwrap_or-now.result c.pop_fronts.result c.unwrap_or-now.ensures) at c.in_err-read.ensures) c.if-range.false (sym c.is_skipped.ensures ∙ c.if-is_skipped.false) _ _ (handed_on _ _ c.from_residual.ensures) refl
 
 pub after_turn-requires : goal.after_turn-requires
 after_turn-requires c =
     let a = c.args in
-    let r = turn_ready a.tables.now a.area.now a.t a.routes.now a.x (so_far_told a.s) a.range a.write a.out.now c.requires (done_of a.t c.pop_fronts.result) c.pop_fronts.ensures _ _ (rw (state_left a.t c.unwrap_or-now.result c.pop_fronts.result c.unwrap_or-now.ensures) at c.in_ok-read.ensures) in
+    let r = turn_ready a.lent.tables.now a.lent.area.now a.t a.lent.routes.now a.x (so_far_told a.s) a.range a.write a.out.now c.requires (done_of a.t c.pop_fronts.result) c.pop_fronts.ensures _ _ (rw (state_left a.t c.unwrap_or-now.result c.pop_fronts.result c.unwrap_or-now.ensures) at c.in_ok-read.ensures) in
     record { counts = r.counts; pops = r.pops; used = r.used }
 
 pub returns : goal.returns
 returns c =
     let a = c.args in
-    turn_lent a.tables.now a.area.now a.t a.routes.now a.x (so_far_told a.s) a.range a.write a.out.now c.requires (done_of a.t c.pop_fronts.result) c.pop_fronts.ensures _ _ (rw (state_left a.t c.unwrap_or-now.result c.pop_fronts.result c.unwrap_or-now.ensures) at c.in_ok-read.ensures) c.if-range.false (sym c.is_skipped.ensures ∙ c.if-is_skipped.false) _ (c.after_turn.ensures a.range)
+    turn_lent a.lent.tables.now a.lent.area.now a.t a.lent.routes.now a.x (so_far_told a.s) a.range a.write a.out.now c.requires (done_of a.t c.pop_fronts.result) c.pop_fronts.ensures _ _ (rw (state_left a.t c.unwrap_or-now.result c.pop_fronts.result c.unwrap_or-now.ensures) at c.in_ok-read.ensures) c.if-range.false (sym c.is_skipped.ensures ∙ c.if-is_skipped.false) _ (c.after_turn.ensures a.range)

@@ -1,8 +1,5 @@
-use Rattle.text.specs.Shown.{Puts}
-use Rattle.std.proofs.Common.{◌≡◌, length}
+use Rattle.text.proofs.Grown.{Grown}
 use Rattle.probe_cache.proofs.shown.put_anchors.Given as goal
 
 abbrev pub invariant-loop-found : goal.invariant-loop-found
-invariant-loop-found l =
-    (length l.out ≡ length l.initial.out)
-    × Puts (record { at = l.at; bytes = l.initial.out }) (record { at = l.to; bytes = l.out })
+invariant-loop-found l = Grown l.at l.initial.out l.to l.out

@@ -1,6 +1,5 @@
 use Rattle.text.proofs.Laws.{puts_on}
-use Rattle.std.proofs.Common.{rules}
 use Rattle.probe_reader.proofs.read.put_counts.Goals as goal
 
 pub loop-i-preserved : goal.loop-i-preserved
-loop-i-preserved c = (search rules, puts_on _ _ _ c.loop-i.invariant.1 c.put_count-to.ensures)
+loop-i-preserved c = puts_on _ _ _ c.loop-i.invariant c.put_count-to.ensures

@@ -1,9 +1,8 @@
 use Rattle.text.proofs.Laws.{puts_on}
-use Rattle.std.proofs.Common.{rules}
 use Rattle.probe_reader.proofs.shown.put_partitions.Goals as goal
 
 pub loop-i-preserved : goal.loop-i-preserved
-loop-i-preserved c = (search rules, puts_on _ _ _ c.loop-i.invariant.1 c.put_partition-to.ensures)
+loop-i-preserved c = puts_on _ _ _ c.loop-i.invariant c.put_partition-to.ensures
 
 pub returns : goal.returns
-returns c = puts_on _ _ _ c.loop-i.invariant.1 (_, c.put.ensures)
+returns c = puts_on _ _ _ c.loop-i.invariant (_, c.put.ensures)

@@ -6,7 +6,7 @@ use borrow.Author.Tests.{tests}
 use Rattle.std.specs.List.{list_all}
 use Rattle.std.proofs.lemmas.Iterator.Search.{all_from_yields_List}
 use Rattle.router.specs.Router.{route_rows}
-use Rattle.router.proofs.Chunks.{YieldsList-from_chunks_exact}
+use Rattle.rows.proofs.Chunks.{YieldsList-from_chunks_exact}
 use Rattle.range_rules.specs.Refusals.{route_open}
 use Rattle.range_reader.proofs.RefusalLaws.{open_of_all}
 use Rattle.range_reader.proofs.halfway.all_open.Goals as goal

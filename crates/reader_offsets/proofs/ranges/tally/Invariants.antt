@@ -4,5 +4,5 @@ use Rattle.reader_offsets.proofs.ranges.tally.Given as goal
 
 abbrev pub invariant-loop-range : goal.invariant-loop-range
 invariant-loop-range l =
-    (tally_from l.par l.t (drop l.range-index l.range-items) ≡ tally_from l.par no_tally l.range-items)
+    (tally_from l.par l.t (drop l.range-index l.ranges) ≡ tally_from l.par no_tally l.ranges)
     × (l.t.count ≤ 4294967296 * l.range-index)

@@ -1,7 +1,0 @@
-use Rattle.std.proofs.Common.{◌≡◌, ◌++◌, take, drop, map}
-use Rattle.reader_rules.specs.Offsets.{marked}
-use Rattle.reader_offsets.proofs.ranges.marked_ranges.Given as goal
-
-abbrev pub invariant-loop-range : goal.invariant-loop-range
-invariant-loop-range l =
-    l.range-items ≡ map marked (take l.range-index l.initial.range-items) ++ drop l.range-index l.initial.range-items
