@@ -7,8 +7,8 @@ use reader_rules::GetNextMessageGroupMode::{Continue, Refill};
 use refusals::{Refusal, number};
 use std::fmt;
 
-// The number of a call; or a refused one changed something. bad_states has one of its own: the two programs share no
-// crate but those that they test (no plainer).
+// The number of a call; or a refused one changed something, which no `Result` with a refusal says (no plainer).
+// bad_states has one of its own: the two programs share no crate but those that they test (no plainer).
 #[derive(Clone, Copy, Debug, PartialEq, Eq)]
 pub enum Answer {
     Number(u8),

@@ -17,7 +17,8 @@ use router::{MAX_PARTITION, MAX_ROUTES};
 
 // Each of the six takes the transaction by reference and changes it: what the core leaves is stored behind `t`, the
 // rest is the answer. A refused call leaves the transaction as it was.
-// The two clauses stand in each: no plainer by one name, which would still take the call, the number and `t.new`.
+// The two clauses stand in each: no plainer by one name, which would still take the call, the number and `t.new`. Each
+// is written out (no plainer as one function): what they share is the line that stores.
 pub fn open(t: &mut AnchorsCacheTransaction, tables: &[u8], area: &[u8]) -> Result<(), Refusal>
     ensures { (number result ≡ (open_call (length area.now) tables.now t.old).number)
         × (t.new ≡ (open_call (length area.now) tables.now t.old).state) }

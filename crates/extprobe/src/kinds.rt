@@ -29,6 +29,7 @@ pub enum Kind {
     Info,
 }
 
+// Here a record's number becomes its kind, or none (no plainer: the record has the number).
 impl TryFrom<u16> for Kind {
     type Error = Refusal;
 

@@ -1,4 +1,5 @@
 // The reads of one range and of all ranges, and the lines of their answers.
+// An array of a struct goes to another one by a local (tried: the borrow checker refuses the direct form).
 ghost use Rattle.text.specs.Shown.{Puts};
 
 use crate::{given, shown};

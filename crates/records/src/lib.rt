@@ -70,7 +70,7 @@ pub fn anchor_bytes(count: u16) -> usize
     ANCHOR_HEAD_BYTES + MESSAGE_LEN * usize::from(count)
 }
 
-// The next record, as far as it is at hand.
+// The next record, as far as it is at hand. No plainer as `Option`: two of the three cases hold a record.
 #[derive(Clone, Copy, Debug, PartialEq, Eq)]
 pub enum Next {
     // its bytes: where they begin, and how many they are

@@ -1,3 +1,4 @@
+-- By an attribute the law of the library's call is not found (tried).
 use Rattle.std.proofs.Common.{rules, get_or, ℕ}
 use Rattle.reader_rules.proofs.Each.{each_made}
 use Rattle.reader_rules.specs.State.{no_reader_partition}

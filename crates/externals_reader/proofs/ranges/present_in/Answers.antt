@@ -1,3 +1,4 @@
+-- By an attribute the law of the library's call is not found (tried).
 use Rattle.std.proofs.Common.{rules}
 use Rattle.reader_rules.proofs.Each.{each_mapped}
 use Rattle.externals_reader.specs.Calls.{is_present}

@@ -1,3 +1,4 @@
+-- By an attribute the law of the library's call is not found (tried).
 use Rattle.std.proofs.Common.{ℕ, ◌+◌, rules, get_or}
 use Rattle.reader_rules.proofs.Each.{each_made}
 use Rattle.reader_rules.specs.Rules.{sums}

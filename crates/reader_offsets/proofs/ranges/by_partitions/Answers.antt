@@ -1,3 +1,4 @@
+-- By an attribute the law of the library's call is not found (tried).
 use Rattle.std.proofs.Common.{ℕ, ◌∙◌, ap, arith}
 use Rattle.std.specs.Prelude.{List, Option, Ok}
 use Rattle.reader_rules.specs.Offsets.{tally_of}

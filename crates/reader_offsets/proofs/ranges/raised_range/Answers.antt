@@ -1,3 +1,4 @@
+-- By an attribute the law of the library's call is not found (tried).
 use Rattle.std.proofs.Common.{ℕ, List, ap, arith}
 use Rattle.messages_buffer.specs.declared.ExternalsPartitionRangeReaderState.{ExternalsPartitionRangeReaderState}
 use Rattle.reader_rules.specs.Offsets.{reader_partition, record_of, tally_of, offset_raised, with_records}
