@@ -76,7 +76,30 @@ part_same l i vs p =
 pub part_stored : {A : Type 0} (l : List A) (at k : ℕ) (vs : List A) → at + length vs ≤ length l → k ≡ length vs → put_mid at k l vs ≡ sets l at vs
 part_stored l at k vs h e = rw (e, drop-drop (length vs) at l, sets-eq vs l at h, append_assoc)
 
+-- a store, and one element more
+pub sets_snoc : {A : Type 0} (l : List A) (i : ℕ) (vs : List A) (v : A) → sets l i (vs ++ (v ∷ [])) ≡ set (sets l i vs) (i + length vs) v
+sets_snoc l i vs v = sets_append l i vs (v ∷ [])
+
+-- a turn of a copy
+pub copy_more : {A : Type 0} (d : A) (l : List A) (at : ℕ) (src : List A) (i : ℕ) → i < length src → set (sets l at (take i src)) (at + i) (get_or src i d) ≡ sets l at (take (i + 1) src)
+copy_more d l at src i p =
+    let e : length (take i src) ≡ i = length-take-le i src (omega arith) in
+    rw (add-one i, take-suc src i d p, sets_snoc l at (take i src) (get_or src i d), e)
+
 -- ---- numbers
+-- a turn of a number's bytes, put one after the other, and what is left after the last
+pub le_more : (l : List ℕ) (i k v : ℕ) → 0 < k → sets l i (le k v) ≡ sets (set l i (v % 256)) (i + 1) (le (k - 1) (v / 256))
+unfolding le
+le_more l i zero v p = absurd (omega arith)
+le_more l i (suc k) v p =
+    let e : suc k - 1 ≡ k = omega arith in
+    rw (e, add-one i)
+
+pub le_none : (l : List ℕ) (i k v : ℕ) → k ≤ 0 → sets l i (le k v) ≡ l
+unfolding le
+le_none l i zero v p = refl
+le_none l i (suc k) v p = absurd (omega arith)
+
 pub length_le : (k v : ℕ) → length (le k v) ≡ k
 unfolding le
 length_le zero v = refl
@@ -144,6 +167,13 @@ unfolding rows
 rows_take w zero n l p = refl
 rows_take w (suc k) zero l p = absurd (omega arith)
 rows_take w (suc k) (suc n) l p = ap (λ (m : List (List ℕ)). take w l ∷ m) (rows_take w k n (drop w l) (omega arith))
+
+-- a row by its place
+pub rows_at : (w n i : ℕ) (l : List ℕ) → i < n → get_or (rows w n l) i [] ≡ part (w * i) w l
+unfolding rows
+rows_at w zero i l p = absurd (omega arith)
+rows_at w (suc n) zero l p = rw (mul-zero w)
+rows_at w (suc n) (suc i) l p = rw (mul_more w i, sym (drop-drop (w * i) w l)) (rows_at w n i (drop w l) (omega arith))
 
 -- rows look at no more than their bytes
 pub rows_within : (w n m : ℕ) (l : List ℕ) → w * n ≤ m → rows w n (take m l) ≡ rows w n l

@@ -124,12 +124,42 @@ pub fn put<N: LittleEndian>(out: &mut [u8], at: usize, n: N)
     n.put_at(out, at);
 }
 
+fn put_le_in(out: &mut [u8], at: usize, v: u64, k: usize)
+    requires { at + k ≤ length out.old }
+    ensures { out.new ≡ sets out.old at (le k v) }
+{
+    let mut rest = v;
+    for i in 0..k {
+        out[at + i] = (rest % 256) as u8;
+        rest /= 256;
+    }
+}
+
+// The low k bytes of v, from a place on, for a width that no number's type has.
+pub fn put_le(out: &mut [u8], at: usize, v: u64, k: usize)
+    ensures { out.new ≡ written at (le k v) out.old }
+{
+    if sum_within(at, k, out.len()) {
+        put_le_in(out, at, v, k);
+    }
+}
+
+// A loop: with the library's `copy_from_slice` (tried) the archive for C needs `memmove`, which a bare host may lack.
+fn copy_in_place(dst: &mut [u8], at: usize, src: &[u8])
+    requires { at + length src.now ≤ length dst.old }
+    ensures { dst.new ≡ sets dst.old at src.now }
+{
+    for i in 0..src.len() {
+        dst[at + i] = src[i];
+    }
+}
+
 // All of src, from a place on.
 pub fn copy_in(dst: &mut [u8], at: usize, src: &[u8])
     ensures { dst.new ≡ written at src.now dst.old }
 {
     if sum_within(at, src.len(), dst.len()) {
-        dst[at..at + src.len()].copy_from_slice(src);
+        copy_in_place(dst, at, src);
     }
 }
 
