@@ -39,7 +39,7 @@ use Rattle.refusals.proofs.Laws.{refused_is_not_done}
 use Rattle.range_rules.specs.Rules.{silent, end_reached, raised, moved_to, key_at, next_key, advanced, ends, stopped, no_processed, judge, more, refused_with, read_one, buffered, buffer_one, after, verdict_on, our_read, message_read, messages_read, entry_len}
 use Rattle.range_rules.specs.WalkEnd.{walk_end}
 use Rattle.range_rules.specs.Bounds.{Few}
-use Rattle.cache_rules.specs.Rules.{max_messages}
+use Rattle.cache_rules.specs.Rules.{max_messages, area_bytes}
 use Rattle.range_reader.specs.Ready.{Wrote, Tells, Eight, walk_told, walk_tells}
 use Rattle.range_reader.specs.Locals.{progress_of, place_at, walk_of, entry_at, bytes_of, verdict_at, grown, taken, entries_of}
 use Rattle.range_rules.proofs.Counts.{judge_buffer, stopped_full, room_in}
@@ -211,6 +211,10 @@ refused_stops : (x : Context) (w : Walk) → (w.number ≡ 0 → ⊥) → stoppe
 unfolding stopped
 refused_stops x w n = rw (ne_eqb w.number 0 n)
 
+-- the part that the loop reads is as long as a message
+pub one_message : (at : ℕ) → at + 33 - at ≡ 33
+one_message at = omega arith
+
 -- the start's offset plus n is behind the last message: less the offset, so many are left
 pub record LocalTurn (x : Context) (routes : List ℕ) (time : ChainTime) (rest : List ℕ) (n : ℕ) (write : Bool) (out₀ : List ℕ) (start : CodeWalk) (out : List ℕ) (offset : ℕ) (b : Progress) (partitions : List ExternalsPartitionRangeReaderState) (read buffered₁ : List ℕ) (at : ℕ) : Type 0 where
   pub turn : Turn x routes time rest n write out₀ (walk_told start) out (walk_told (walk_of start x.saved_end offset b partitions read buffered₁)) at (start.place.key.msgs_offset + n - offset)
@@ -276,6 +280,13 @@ module _ {x : Context} {routes : List ℕ} {time : ChainTime} {rest : List ℕ} 
     -- the walk is stopped where a buffer is full, as the loop tests it
     pub locals_full : b.free ≡ 0 → Wrote write start.buffers.used out₀ out here (messages_read x routes time (rows 33 n rest) (silent (walk_told start)))
     locals_full z = turn_stop x routes time rest n write out₀ (walk_told start) out here at (first + n - offset) h.turn (stopped_full_lem ∙ eq-eqb b.free 0 z)
+
+    -- the next message stands in the rest, and behind it 64 bits still hold the place
+    pub locals_bytes : at + 33 ≤ length rest
+    locals_bytes = omega (arith, h.turn.bytes, left)
+
+    pub locals_near : at + 33 ≤ area_bytes
+    locals_near = omega (arith, h.turn.near, left)
 
     -- counts leave room for one more
     pub locals_counts : (p : ℕ) → (get_or read p 0 < max_messages) × (get_or buffered₁ p 0 < max_messages)

@@ -4,10 +4,8 @@ use mathlib.Core.Path.{◌≡◌, refl, sym, ap, subst, ◌∙◌}
 use mathlib.Core.Bool.{Bool, true, false}
 use mathlib.Core.List.{List, [], ◌++◌}
 use native.Mathlib.Omega.{arith}
-use lib.ListN.{length, get_or, take, drop, length-append, length-take}
-use lib.Seq.{sets, length-sets, take-take, drop-drop}
-use Rattle.std.proofs.lemmas.List.{drop-take}
-use Rattle.std.proofs.Math.Seq.{take-append_seam, drop-append_seam}
+use lib.ListN.{length, get_or, take, drop, length-append}
+use lib.Seq.{sets, length-sets}
 use Rattle.rows.specs.Rows.{pick, rows, whole_rows}
 use Rattle.rows.proofs.Laws.{sets_append, pick_yes, pick_no, rows_cons, pick_same, whole_cons}
 use Rattle.ext_types.specs.declared.ChainTime.{ChainTime}
@@ -128,24 +126,6 @@ module _ (x : Context) (routes : List ℕ) (time : ChainTime) (rest : List ℕ) 
 
     pub turn_none : left ≤ 0 → Wrote write w₀.buffers.used out₀ out w (messages_read x routes time (rows 33 n rest) (silent w₀))
     turn_none e = turn_end (walk_none x routes time rest at left (record { value = w; entries = h.entries }) e)
-
--- ---- the messages as chunks
--- of k messages from a place on, the first one and the others
-pub chunk_first : (rest : List ℕ) (at k : ℕ) (m next : List ℕ) → take (33 * k) (drop at rest) ≡ m ++ next → length m ≡ 33
-    → (0 < k) × ((m ≡ take 33 (drop at rest)) × (next ≡ take (33 * (k - 1)) (drop (at + 33) rest)))
-chunk_first rest at k m next e w =
-    let l = drop at rest in
-    let n : 33 ≤ length (take (33 * k) l) = omega (arith, ap length e, length-append m next) in
-    let some : 0 < k = omega (arith, length-take (33 * k) l) in
-    let s : 33 * k ≡ 33 + 33 * (k - 1) = omega arith in
-    let a : take 33 (m ++ next) ≡ m = rw (sym w) (take-append_seam m next) in
-    let d : drop 33 (m ++ next) ≡ next = rw (sym w) (drop-append_seam m next) in (
-      some,
-      (
-        sym a ∙ (ap (take 33) (sym e) ∙ take-take 33 (33 * k) l (omega arith)),
-        sym d ∙ (ap (drop 33) (sym e) ∙ (ap (λ (j : ℕ). drop 33 (take j l)) s ∙ (drop-take 33 (33 * (k - 1)) l ∙ ap (take (33 * (k - 1))) (drop-drop 33 at rest)))),
-      ),
-    )
 
 -- ---- an expired anchor's messages
 module _ (shard : ShardIdent) (routes : List ℕ) where

@@ -253,13 +253,17 @@ pub(crate) fn messages_read(
     let partitions = &mut w.buffers.by_partitions;
     let read = &mut w.counts.read;
     let buffered = &mut w.counts.buffered;
-    let walked = &rest[..MESSAGE_LEN * usize::from(end - offset)];
-    for m in walked.chunks_exact(MESSAGE_LEN) {
+    let mut at = 0;
+    // A `while`: the offset's test in 16 bits ends the walk. An iterator over the messages keeps and tests the bytes
+    // left, 64 bits on every board (tried: 126,921 instructions in place of 119,546 for a read of 1,024 messages).
+    while offset < end {
         // Before its end, the walk stops where a buffer is full.
         if b.free == 0 {
             break;
         }
+        let m = &rest[at..at + MESSAGE_LEN];
         offset += 1;
+        at += MESSAGE_LEN;
         if is_ours(x.shard, m) {
             let p = partition_of(routes, m);
             let e = entry_at(x.seqno, p as u16, first.anchor_id, offset, time);
