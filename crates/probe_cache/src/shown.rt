@@ -11,12 +11,12 @@ fn digest(start: u32, bytes: &[u8]) -> u32 {
     })
 }
 
-// Of the messages of an anchor.
+// Of the messages of an anchor, where they lie wholly in the area.
 fn digest_messages(start: u32, area: &[u8], place: usize, count: usize) -> u32 {
-    area.chunks_exact(MESSAGE_LEN)
-        .skip(place)
-        .take(count)
-        .fold(start, digest)
+    let from = place.saturating_mul(MESSAGE_LEN);
+    let to = from.saturating_add(count.saturating_mul(MESSAGE_LEN));
+    area.get(from..to)
+        .map_or(start, |messages| digest(start, messages))
 }
 
 // A cached anchor, with digests of its author and of its messages.
