@@ -23,12 +23,10 @@ impl Digest {
         self.number(u64::from(anchor.ours));
         self.number(anchor.count as u64);
         self.bytes(&authored.author);
-        for message in area
-            .chunks_exact(MESSAGE_LEN)
-            .skip(anchor.place)
-            .take(anchor.count)
-        {
-            self.bytes(message);
+        let from = anchor.place.saturating_mul(MESSAGE_LEN);
+        let to = from.saturating_add(anchor.count.saturating_mul(MESSAGE_LEN));
+        if let Some(messages) = area.get(from..to) {
+            self.bytes(messages);
         }
     }
 

@@ -150,8 +150,8 @@ impl Draw {
 
 // Each byte is one more than the one before it, and 0 behind 255.
 fn count_up(bytes: &mut [u8], first: u8) {
-    for (place, i) in bytes.iter_mut().zip(0..=u8::MAX) {
-        *place = first.wrapping_add(i);
+    for (i, place) in bytes.iter_mut().enumerate() {
+        *place = first.wrapping_add((i % 256) as u8);
     }
 }
 

@@ -5,12 +5,13 @@ mod digest;
 mod draw;
 
 use anchors_cache::{After, AnchorsCacheTransaction, Authored, MempoolAnchor, TABLES_BYTES};
+use arrayvec::ArrayVec;
 use cache_rules::AREA_BYTES;
 use draw::{Draw, Kind, Step};
 use ext_types::ChainTime;
 use refusals::Refusal;
 use rows::MESSAGE_LEN;
-use std::io::{self, BufWriter, Write};
+use std::io::{self, Write};
 
 // What goes from step to step. None of the totals comes near 2^64.
 #[derive(Drop)]
@@ -163,22 +164,32 @@ impl Run {
     }
 }
 
-fn put_steps(rt: &HostRuntime) -> io::Result<()> {
-    let mut out = BufWriter::new(rt.alloc(), rt.stdout())?;
+// The text goes out where one more step might not fit. The longest has 40 lines of `add` and its last line.
+const FULL: usize = 61_440;
+
+// Gathered here and not in a `BufWriter`, which ends where a write would have to wait; `write_all` makes it again.
+type Text = ArrayVec<u8, 65_536>;
+
+fn put_steps(out: &mut impl Write) -> io::Result<()> {
+    let mut text = Text::new();
     let mut run = Run::new();
     for _ in 0..10 {
         for kind in [Kind::Small, Kind::Large, Kind::NoneOurs] {
             for _ in 0..40 {
-                run.step(&mut out, kind)?;
-                run.put_cache(&mut out)?;
+                run.step(&mut text, kind)?;
+                run.put_cache(&mut text)?;
+                if FULL <= text.len() {
+                    streams::write_all(out, &text)?;
+                    text.clear();
+                }
             }
         }
     }
-    writeln!(out, "end {} {} {}", run.adds, run.refused, run.pops)?;
-    out.flush()
+    writeln!(text, "end {} {} {}", run.adds, run.refused, run.pops)?;
+    streams::write_all(out, &text)
 }
 
 // Where a write fails the list ends, in silence.
 fn main(rt: HostRuntime) {
-    let _ = put_steps(&rt);
+    let _ = put_steps(&mut rt.stdout());
 }
