@@ -1,5 +1,5 @@
 // Every call of the cache on one state, and what they answer.
-use crate::state;
+use crate::state::{self, Whole};
 use anchors_cache::{AnchorInfo, AnchorsCacheTransaction, MempoolAnchor};
 use cache_rules::{AUTHOR_BYTES, MAX_ANCHOR_MESSAGES};
 use ext_types::{ChainTime, ExternalKey};
@@ -9,7 +9,8 @@ use std::fmt;
 
 // How many bytes of the tables and of the area are lent, and the state that is handed in.
 #[derive(Clone, Copy)]
-pub struct Case {
+pub struct Case<'a> {
+    pub whole: &'a Whole,
     pub tables: usize,
     pub area: usize,
     pub t: AnchorsCacheTransaction,
@@ -40,9 +41,9 @@ impl fmt::Display for Answer {
 }
 
 // A refused add leaves every byte of tables and area.
-pub fn add(case: Case, new: New) -> Answer {
-    let mut tables = state::tables();
-    let mut area = state::area();
+pub fn add(case: Case<'_>, new: New) -> Answer {
+    let mut tables = state::copy(&case.whole.tables);
+    let mut area = state::copy(&case.whole.area);
     let (n, m) = (case.tables.min(tables.len()), case.area.min(area.len()));
     let messages = [9; MESSAGE_LEN * (MAX_ANCHOR_MESSAGES + 1)];
     let k = new.bytes.min(messages.len());
@@ -59,16 +60,16 @@ pub fn add(case: Case, new: New) -> Answer {
         new.ours,
         &messages[..k],
     );
-    if added.is_err() && (tables != state::tables() || area != state::area()) {
+    if added.is_err() && (tables != case.whole.tables || area != case.whole.area) {
         return Answer::Changed;
     }
     Answer::Number(number(added))
 }
 
 // An entry to the history alone; a refused one leaves every byte of the tables.
-fn add_info(case: Case) -> Answer {
-    let mut tables = state::tables();
-    let area = state::area();
+fn add_info(case: Case<'_>) -> Answer {
+    let mut tables = state::copy(&case.whole.tables);
+    let area = &case.whole.area;
     let (n, m) = (case.tables.min(tables.len()), case.area.min(area.len()));
     let info = AnchorInfo {
         id: 1000,
@@ -83,7 +84,7 @@ fn add_info(case: Case) -> Answer {
         info,
         [9; AUTHOR_BYTES],
     );
-    if added.is_err() && tables != state::tables() {
+    if added.is_err() && tables != case.whole.tables {
         return Answer::Changed;
     }
     Answer::Number(number(added))
@@ -121,10 +122,9 @@ fn looks(tables: &[u8], t: AnchorsCacheTransaction) -> [u8; 6] {
 }
 
 // The answers on the case, in the order of the README.
-impl fmt::Display for Case {
+impl fmt::Display for Case<'_> {
     fn fmt<W: fmt::Write>(&self, f: &mut fmt::Formatter<W>) -> fmt::Result {
-        let tables = state::tables();
-        let area = state::area();
+        let Whole { tables, area } = self.whole;
         let tables = &tables[..self.tables.min(tables.len())];
         let area = &area[..self.area.min(area.len())];
         let new = New {

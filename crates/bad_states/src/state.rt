@@ -42,6 +42,27 @@ fn count_of(i: u32) -> u16 {
     }
 }
 
+// What every case is lent a part of. It is made once, and copied where a call may write.
+#[derive(Clone, Copy)]
+pub struct Whole {
+    pub tables: [u8; TABLES_BYTES],
+    pub area: [u8; LONG_AREA],
+}
+
+impl Whole {
+    pub fn new() -> Self {
+        Whole {
+            tables: tables(),
+            area: area(),
+        }
+    }
+}
+
+// For a call that may write.
+pub fn copy<const N: usize>(bytes: &[u8; N]) -> [u8; N] {
+    *bytes
+}
+
 // The anchors' rows stand behind the history.
 pub fn tables() -> [u8; TABLES_BYTES] {
     let mut all = [7; TABLES_BYTES];
