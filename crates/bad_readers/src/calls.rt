@@ -24,11 +24,30 @@ impl fmt::Display for Answer {
     }
 }
 
+fn new(case: Case, reader: ExternalsReader) -> Result<ExternalsReader, Refusal> {
+    let ExternalsReader {
+        for_shard_id,
+        block_seqno,
+        next_chain_time,
+        msgs_exec_params,
+        reader_state,
+        ..
+    } = reader;
+    externals_reader::new(
+        for_shard_id,
+        block_seqno,
+        next_chain_time,
+        msgs_exec_params,
+        case.limits(),
+        reader_state,
+    )
+}
+
 // Columns 2 to 8.
 fn of_reader(case: Case, reader: ExternalsReader) -> [u8; 7] {
     [
         number(check_settings(case.limits(), case.most)),
-        number(externals_reader::renew(reader)),
+        number(new(case, reader)),
         number(externals_reader::reset_read_state(reader)),
         number(externals_reader::drop_last_read_to_anchor_chain_time(reader)),
         number(externals_reader::set_buffer_limits_by_partition(reader, case.limits())),
