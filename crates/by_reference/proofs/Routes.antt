@@ -10,8 +10,8 @@ use Rattle.std.specs.Option.{MatchOption, option_map}
 use lib.Dec.{eqb, ltb}
 use lib.Pointwise.{pointwise}
 use lib.IntN.{ℤ, pos, negsuc}
-use lib.ListN.{length, get_or, take, drop, set, length-set, length-drop, length-append, length-map, drop_of_length-le}
-use lib.Seq.{take-length, drop-cons, get_or-drop, length-take-le, take-suc, take-suc-set, take_at, drop_at, get_or_at}
+use lib.ListN.{length, get_or, take, drop, set, replicate, length-set, length-drop, length-append, length-map, drop_of_length-le}
+use lib.Seq.{take-length, set-append_seam, drop-cons, get_or-drop, length-take-le, take-suc, take-suc-set, take_at, drop_at, get_or_at}
 use mir.Syntax.{w8}
 use mir.Val.{SFits}
 use borrow.Author.Tests.{ltb-true, lt-ltb, le-ltb}
@@ -212,6 +212,115 @@ module _ (z : ℤ) (a : List ℕ) where
       go : (b : Bool) → (walked_over z a nothing_walked l).sound ≡ b → walk_answer (walked_over z a nothing_walked l) ≡ unless_refused (pick b 0 3) (first_partition_in l z a)
       go true e = ap (λ (b : Bool). pick b (record { number = 0; value = (walked_over z a nothing_walked l).partition }) (record { number = 3; value = 0 })) e ∙ ap (λ (p : ℕ). record { number = 0; value = p }) (partition_over nothing_walked l (λ n. refl) e)
       go false e = ap (λ (b : Bool). pick b (record { number = 0; value = (walked_over z a nothing_walked l).partition }) (record { number = 3; value = 0 })) e
+
+-- ---- what the walk comes to, whole
+-- the records that question 3 takes behind those before them, up to the first that it refuses
+abbrev pub taken_of : List Route → List Route → List Route
+taken_of before [] = []
+taken_of before (r ∷ l) = pick (takes_one before r) (r ∷ taken_of (before ++ (r ∷ [])) l) []
+
+-- a walk that holds these records and zeros behind them
+abbrev pub walk_of : ℤ → List ℕ → List Route → Bool → Walk
+walk_of z a taken sound =
+    record {
+      routes = taken ++ replicate (max_routes - length taken) (record { workchain = pos 0; account = replicate 32 0; partition = 0 });
+      len = length taken;
+      sound = sound;
+      found = listed_in z a taken;
+      partition = first_partition_in taken z a;
+    }
+
+listed_more : (z : ℤ) (a : List ℕ) (l : List Route) (r : Route) → listed_in z a (l ++ (r ∷ [])) ≡ pick (listed_in z a l) true (same_route r z a)
+unfolding listed_in
+listed_more z a [] r = go (same_route r z a)
+  where
+    go : (b : Bool) → pick b true false ≡ b
+    go true = refl
+    go false = refl
+listed_more z a (q ∷ l) r = go (same_route q z a) (listed_more z a l r)
+  where
+    go : (b : Bool) → listed_in z a (l ++ (r ∷ [])) ≡ pick (listed_in z a l) true (same_route r z a) → pick b true (listed_in z a (l ++ (r ∷ []))) ≡ pick (pick b true (listed_in z a l)) true (same_route r z a)
+    go true e = refl
+    go false e = e
+
+first_more : (z : ℤ) (a : List ℕ) (l : List Route) (r : Route) → first_partition_in (l ++ (r ∷ [])) z a ≡ pick (listed_in z a l) (first_partition_in l z a) (pick (same_route r z a) r.partition 0)
+unfolding listed_in
+first_more z a [] r = refl
+first_more z a (q ∷ l) r = go (same_route q z a) (first_more z a l r)
+  where
+    go : (b : Bool) → first_partition_in (l ++ (r ∷ [])) z a ≡ pick (listed_in z a l) (first_partition_in l z a) (pick (same_route r z a) r.partition 0)
+        → pick b q.partition (first_partition_in (l ++ (r ∷ [])) z a) ≡ pick (pick b true (listed_in z a l)) (pick b q.partition (first_partition_in l z a)) (pick (same_route r z a) r.partition 0)
+    go true e = refl
+    go false e = e
+
+none_yet : (z : ℤ) (a : List ℕ) (l : List Route) → listed_in z a l ≡ false → first_partition_in l z a ≡ 0
+unfolding listed_in
+none_yet z a [] e = refl
+none_yet z a (r ∷ l) e = go (same_route r z a) e (none_yet z a l)
+  where
+    go : (b : Bool) → pick b true (listed_in z a l) ≡ false → (listed_in z a l ≡ false → first_partition_in l z a ≡ 0) → pick b r.partition (first_partition_in l z a) ≡ 0
+    go true h next = never h
+    go false h next = next h
+
+module _ (z : ℤ) (a : List ℕ) where
+  -- a refused walk stays as it is, whole
+  refused_stays : (w : Walk) (l : List Route) → walked_over z a (refused_walk w) l ≡ refused_walk w
+  refused_stays w [] = refl
+  refused_stays w (r ∷ l) = ap (λ (v : Walk). walked_over z a v l) (sym (is_not_taken z a (refused_walk w) r (sym (not_sound (refused_walk w) r refl)))) ∙ refused_stays w l
+
+  -- a record that question 3 takes is held behind the others
+  module _ (before : List Route) (r : Route) (few : length before < max_routes) where
+    one_held : (found : Bool) (partition : ℕ) → found ≡ listed_in z a (before ++ (r ∷ [])) → partition ≡ first_partition_in (before ++ (r ∷ [])) z a
+        → with_route (walk_of z a before true) r found partition ≡ walk_of z a (before ++ (r ∷ [])) true
+    one_held found partition f p =
+        let zero_route : Route = record { workchain = pos 0; account = replicate 32 0; partition = 0 } in
+        let n : length (before ++ (r ∷ [])) ≡ length before + 1 = length-append before (r ∷ []) in
+        let room : max_routes - length before ≡ suc (max_routes - (length before + 1)) = omega (arith, few) in
+        let rows : set (before ++ replicate (max_routes - length before) zero_route) (length before) r ≡ (before ++ (r ∷ [])) ++ replicate (max_routes - (length before + 1)) zero_route =
+        ap (λ (k : ℕ). set (before ++ replicate k zero_route) (length before) r) room
+        ∙ set-append_seam before zero_route (replicate (max_routes - (length before + 1)) zero_route) r
+        ∙ sym (append_assoc before (r ∷ []) (replicate (max_routes - (length before + 1)) zero_route)) in
+        rw (n, f, p, rows) refl
+
+    one_walked : takes_route (walk_of z a before true) r ≡ true → walked_on z a (walk_of z a before true) r ≡ walk_of z a (before ++ (r ∷ [])) true
+    one_walked taken =
+        walk_cases z a (λ v. v ≡ walk_of z a (before ++ (r ∷ [])) true) (walk_of z a before true) r
+        (λ x. never (sym taken ∙ x))
+        (λ x y. one_held true _ (sym (listed_more z a before r ∙ pick_yes _ _ _ y)) (sym (first_more z a before r ∙ pick_yes _ _ _ y)))
+        (λ x y k. one_held true _ (sym (listed_more z a before r ∙ pick_no _ _ _ y ∙ k)) (sym (first_more z a before r ∙ pick_no _ _ _ y ∙ pick_yes _ _ _ k)))
+        (λ x y k. one_held false _ (sym (listed_more z a before r ∙ pick_no _ _ _ y ∙ k)) (none_yet z a before y ∙ sym (first_more z a before r ∙ pick_no _ _ _ y ∙ pick_no _ _ _ k)))
+
+  walk_from : (before l : List Route) → length before ≤ max_routes → walked_over z a (walk_of z a before true) l ≡ walk_of z a (before ++ taken_of before l) (takes_all before l)
+  unfolding takes_all
+  walk_from before [] few = ap (λ (k : List Route). walk_of z a k true) (sym (append-nil before))
+  walk_from before (r ∷ l) few = go (takes_one before r) refl (walk_from (before ++ (r ∷ [])) l)
+    where
+      more : List Route
+      more = before ++ (r ∷ [])
+
+      w : Walk
+      w = walk_of z a before true
+
+      one : takes_route w r ≡ takes_one before r
+      one = takes_one_lem z a w r before (take_at before _ (length before) refl) refl refl
+
+      go : (b : Bool) → takes_one before r ≡ b → (length more ≤ max_routes → walked_over z a (walk_of z a more true) l ≡ walk_of z a (more ++ taken_of more l) (takes_all more l))
+          → walked_over z a (walked_on z a w r) l ≡ walk_of z a (before ++ pick b (r ∷ taken_of more l) []) (b && takes_all more l)
+      go true e next =
+          let room = few_so_far w r (one ∙ e) in
+          ap (λ (v : Walk). walked_over z a v l) (one_walked before r room (one ∙ e))
+          ∙ next (omega (arith, room, length-append before (r ∷ [])))
+          ∙ ap (λ (k : List Route). walk_of z a k (takes_all more l)) (append_assoc before (r ∷ []) (taken_of more l))
+      go false e next =
+          ap (λ (v : Walk). walked_over z a v l) (sym (is_not_taken z a w r (one ∙ e)))
+          ∙ refused_stays w l
+          ∙ ap (λ (k : List Route). walk_of z a k false) (sym (append-nil before))
+
+  -- The walk holds the records up to the first that question 3 refuses and zeros behind them, and of these it has
+  -- found the first for the workchain and the account: a refused record leaves all but the mark.
+  pub the_walk_holds_the_records_that_question_3_takes : (l : List Route) → walked_over z a nothing_walked l ≡ walk_of z a (taken_of [] l) (takes_all [] l)
+  unfolding nothing_walked listed_in
+  the_walk_holds_the_records_that_question_3_takes l = walk_from [] l (omega arith)
 
 -- ---- one route
 pub other_workchain : (r : Route) (w : ℤ) (a : List ℕ) → (r.workchain ≡ w → ⊥) → false ≡ same_route r w a

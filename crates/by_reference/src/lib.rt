@@ -7,7 +7,7 @@ ghost use Rattle.anchors_cache.specs.Calls.{pop_call, trim_call, open_call, comm
 ghost use Rattle.refusals.specs.Refusals.{number};
 ghost use Rattle.anchors_cache.specs.Answers.{anchor_answer_of, info_answer_of};
 ghost use Rattle.by_reference.specs.Answers.{pop_answer_of, trim_answer_of, told, in_turn};
-ghost use Rattle.by_reference.specs.Search.{same_route, takes_one, records_number, get_partition_in};
+ghost use Rattle.by_reference.specs.Search.{same_route, takes_one, records_number, get_partition_in, nothing_walked, walked_over, walk_answer};
 ghost use Rattle.router.specs.Router.{answer_of};
 
 use anchors_cache::{AnchorInfo, AnchorsCacheTransaction, Authored, CachedAnchor};
@@ -151,9 +151,11 @@ fn check_routes(routes: &[Route]) -> Result<(), Refusal>
     Ok(())
 }
 
-// The partition of the first record for the workchain and the account, else 0; question 3 refuses the records.
+// The partition of the first record for the workchain and the account, else 0; question 3 refuses the records. The
+// second clause says the same of one walk over them: two ways to write the rule down, and the code answers as both.
 pub fn get_partition(routes: &[Route], workchain: i8, account: [u8; 32]) -> Result<u8, Refusal>
-    ensures { answer_of result ≡ get_partition_in routes.now workchain account }
+    ensures rule { answer_of result ≡ get_partition_in routes.now workchain account }
+    ensures walked { answer_of result ≡ walk_answer (walked_over workchain account nothing_walked routes.now) }
 {
     check_routes(routes)?;
     let first = routes.iter().find(|r| same_route(r, workchain, &account));
@@ -163,7 +165,8 @@ pub fn get_partition(routes: &[Route], workchain: i8, account: [u8; 32]) -> Resu
 // Lends its own routes, for whoever has them by value. Four, as its one caller has: a const parameter is no plainer,
 // for `get_partition` takes any number.
 pub fn partition_of4(routes: [Route; 4], workchain: i8, account: [u8; 32]) -> Result<u8, Refusal>
-    ensures { answer_of result ≡ get_partition_in routes workchain account }
+    ensures rule { answer_of result ≡ get_partition_in routes workchain account }
+    ensures walked { answer_of result ≡ walk_answer (walked_over workchain account nothing_walked routes) }
 {
     get_partition(&routes, workchain, account)
 }
