@@ -17,6 +17,7 @@ use Rattle.std.specs.Prelude.{Some, None}
 use Rattle.cache_rules.specs.Rules.{Row, sound_row, sound_from, total, last_of, above_last, same_bool, right_size, room, pending_up_to, ask, max_anchors, max_anchor_messages, max_messages, max_history, area_bytes}
 use Rattle.anchors_cache.specs.Tables.{tables_bytes, anchors, anchor_at, anchors_of}
 use Rattle.anchors_cache.specs.Windows.{used_by, Inside, Sound, Room, any_places}
+use Rattle.anchors_cache.specs.contracts.AnchorsCachePartialEq.TheImpl as derived-eq
 use Rattle.anchors_cache.specs.Calls.{same_window, sound_total, sound_anchor, cached_anchor, valid_cache, valid, refusal, refusal_at, refusal_seen, add_number, add_info_number, on_zero, places_in}
 use Rattle.anchors_cache.proofs.Laws.{anchors_cons, anchors_none}
 
@@ -147,7 +148,12 @@ same_window_lem a b e =
         ∙ (ap (λ (v : ℕ). window b.first b.len b.history_first b.history_len v a.pending) n
         ∙ ap (window b.first b.len b.history_first b.history_len b.base) p))))
 
--- the derived test of two windows is the rule's
+-- The derived `==` of two windows is the rule's test of them, for whoever compares windows by it.
+pub same_is_window : (a b : AnchorsCache) → derived-eq.eq-value.it a b ≡ same_window a b
+unfolding same_window
+same_is_window a b = rw (same_beq a.pending b.pending) refl
+
+-- windows that it finds equal are one
 pub equal_window : (a b : AnchorsCache)
     → (eqb a.first b.first && (eqb a.len b.len && (eqb a.history_first b.history_first && (eqb a.history_len b.history_len && (eqb a.base b.base && beq a.pending b.pending))))) ≡ true
     → a ≡ b
