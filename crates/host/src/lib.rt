@@ -243,7 +243,7 @@ pub extern "C" fn ext_open(t: &mut AnchorsCacheTransaction, tables: &[u8], area:
     ensures { (result ≡ (open_call (length area.now) tables.now t.old).number)
         × (t.new ≡ (open_call (length area.now) tables.now t.old).state) }
 {
-    refusals::number(by_reference::open(t, tables, area))
+    stored(anchors_cache::open(tables, area, *t), t)
 }
 
 #[unsafe(no_mangle)]
@@ -251,7 +251,7 @@ pub extern "C" fn ext_commit(t: &mut AnchorsCacheTransaction, tables: &[u8], are
     ensures { (result ≡ (commit_call (length area.now) tables.now t.old).number)
         × (t.new ≡ (commit_call (length area.now) tables.now t.old).state) }
 {
-    refusals::number(by_reference::commit(t, tables, area))
+    stored(anchors_cache::commit(tables, area, *t), t)
 }
 
 #[unsafe(no_mangle)]
@@ -259,7 +259,7 @@ pub extern "C" fn ext_rollback(t: &mut AnchorsCacheTransaction, tables: &[u8], a
     ensures { (result ≡ (rollback_call (length area.now) tables.now t.old).number)
         × (t.new ≡ (rollback_call (length area.now) tables.now t.old).state) }
 {
-    refusals::number(by_reference::rollback(t, tables, area))
+    stored(anchors_cache::rollback(tables, area, *t), t)
 }
 
 #[unsafe(no_mangle)]
@@ -267,7 +267,7 @@ pub extern "C" fn ext_close(t: &mut AnchorsCacheTransaction, tables: &[u8], area
     ensures { (result ≡ (close_call (length area.now) tables.now t.old).number)
         × (t.new ≡ (close_call (length area.now) tables.now t.old).state) }
 {
-    refusals::number(by_reference::close(t, tables, area))
+    stored(anchors_cache::close(tables, area, *t), t)
 }
 
 #[unsafe(no_mangle)]
@@ -288,7 +288,11 @@ pub extern "C" fn ext_pop_front(
     ensures { (result ≡ (pop_shown (pop_call (length area.now) tables.now t.old)).answer)
         × (t.new ≡ (pop_shown (pop_call (length area.now) tables.now t.old)).state) }
 {
-    by_reference::pop_front(t, tables, area).into()
+    let done = anchors_cache::pop_front(tables, area, *t);
+    if let Ok(after) = done {
+        *t = after.state;
+    }
+    done.map(|after| after.answer).into()
 }
 
 #[tactic(auto, unfolding(crate::specs::Calls::trim_shown))]
@@ -302,7 +306,11 @@ pub extern "C" fn ext_remove_last_imported_above(
     ensures { (result ≡ (trim_shown (trim_call (length area.now) ct.0 tables.now t.old)).answer)
         × (t.new ≡ (trim_shown (trim_call (length area.now) ct.0 tables.now t.old)).state) }
 {
-    by_reference::remove_last_imported_above(t, tables, area, ct).into()
+    let done = anchors_cache::remove_last_imported_above(tables, area, *t, ct);
+    if let Ok(after) = done {
+        *t = after.state;
+    }
+    done.map(|after| after.answer).into()
 }
 
 // An anchor to the history always, to the cache where ours is above 0.
