@@ -200,7 +200,9 @@ pub struct ByPartitions {
 fn stored(done: Result<AnchorsCacheTransaction, Refusal>, t: &mut AnchorsCacheTransaction) -> u8
     ensures { (result ≡ (done_of t.old done).number) × (t.new ≡ (done_of t.old done).state) }
 {
-    *t = done.unwrap_or(*t);
+    if let Ok(next) = done {
+        *t = next;
+    }
     refusals::number(done)
 }
 
