@@ -37,13 +37,14 @@ fn partition_of(row: &[u8]) -> ExternalsPartitionRangeReaderState {
     }
 }
 
-// extprobe cuts the rows once more: out of a function for both, the loop's proof lacks their width (tried).
+// A row that the payload's end cuts has zeros behind it. extprobe cuts the rows once more: out of a function for both,
+// the loop's proof lacks their width (tried).
 fn partitions_of(p: &[u8]) -> [ExternalsPartitionRangeReaderState; 8] {
     let mut all = [NO_PARTITION; 8];
     let rows = p
         .get(RANGE_HEAD..)
         .unwrap_or_default()
-        .chunks_exact(PARTITION_LEN);
+        .chunks(PARTITION_LEN);
     for (partition, row) in all.iter_mut().zip(rows) {
         *partition = partition_of(row);
     }
