@@ -1,5 +1,5 @@
 // The ranges' turns in a read of all: which ranges are read, how, and what becomes of the rest.
-// `write` is a flag (no plainer): both runs are one code, as range_reader's `read_or_check` says.
+// `write` is a flag (no plainer): both runs take the same turns, and only a range's read asks it.
 // Arrays of a struct go to another one by a local: a field that is an array can't be moved out beside the others
 // (tried: the borrow checker refuses it).
 ghost use Rattle.std.specs.Prelude.{ℕ, List, length, ◌++◌, ◌+◌, ◌<◌, ◌^◌, ◌≡◌, not, ◌&&◌, eqb, get_or};
@@ -135,7 +135,7 @@ fn settled(x: Fixed, range: ExternalsRangeReaderState) -> ExternalsRangeReaderSt
     }
 }
 
-// One range's read, at the first free place of the output.
+// One range's read, at the first free place of the output: the public one-range read, or what it would answer.
 #[tactic(auto, using(crate::proofs::TurnLaws::range_told))]
 fn range_turn(
     lent: Lent<'_>,
@@ -156,7 +156,11 @@ fn range_turn(
         timeout: x.params.externals_expire_timeout,
         mode: mode_for(x, range.seqno),
     };
-    range_reader::read_or_check(lent, t, settings, range, write, out)
+    if write {
+        range_reader::read_externals_into_buffers(lent, t, settings, range, out)
+    } else {
+        range_reader::check_read_externals(lent, t, settings, range, out)
+    }
 }
 
 // What a range's read makes of what the turns before came to. How the range was before is no part of that.
