@@ -70,11 +70,18 @@ pub struct TurnDone {
 }
 
 // Question 5 of a reader's state.
-#[tactic(auto, using(std::proofs::lemmas::Bool::Decides::nat_tests), unfolding(reader_rules::specs::State::state_number))]
 pub fn check_state(state: ExternalsReaderState) -> Result<(), Refusal>
     ensures { number result ≡ state_number state }
 {
-    questions::check_ranges(state.ranges, state.len)
+    check_lent_state(&state)
+}
+
+// The same of a state that is lent: a caller that only asks copies no 3.4 KB.
+#[tactic(auto, using(std::proofs::lemmas::Bool::Decides::nat_tests), unfolding(reader_rules::specs::State::state_number))]
+pub fn check_lent_state(state: &ExternalsReaderState) -> Result<(), Refusal>
+    ensures { number result ≡ state_number state.now }
+{
+    questions::check_ranges(&state.ranges, state.len)
 }
 
 // Question 4, of the limits and of the open-ranges limit.
@@ -111,13 +118,11 @@ pub fn renew(reader: ExternalsReader) -> Result<ExternalsReader, Refusal>
     ensures { let handed = with_mark reader false in
         reader_done_of handed result ≡ new_call handed }
 {
-    let handed = ExternalsReader {
-        all_ranges_fully_read: false,
-        ..reader
-    };
-    questions::check_reader(handed)?;
-    let state = ranges::entered(handed.buffer_limits_by_partitions, handed.reader_state);
-    Ok(with_state(handed, state))
+    let mut next = reader;
+    next.all_ranges_fully_read = false;
+    questions::check_reader(&next)?;
+    ranges::enter_state(next.buffer_limits_by_partitions, &mut next.reader_state);
+    Ok(next)
 }
 
 // A reader over a state: each partition that has a limit gets a record, if it has none, and a range is fully read
@@ -148,7 +153,7 @@ pub fn new(
 pub fn reset_read_state(reader: ExternalsReader) -> Result<ExternalsReader, Refusal>
     ensures { reader_done_of reader result ≡ reset_call reader }
 {
-    check_state(reader.reader_state)?;
+    check_lent_state(&reader.reader_state)?;
     Ok(ExternalsReader {
         all_ranges_fully_read: false,
         ..reader
@@ -161,7 +166,7 @@ pub fn drop_last_read_to_anchor_chain_time(
 ) -> Result<ExternalsReader, Refusal>
     ensures { reader_done_of reader result ≡ drop_last_call reader }
 {
-    check_state(reader.reader_state)?;
+    check_lent_state(&reader.reader_state)?;
     Ok(with_state(reader, ranges::with_last(reader.reader_state, None)))
 }
 
@@ -173,7 +178,7 @@ pub fn set_buffer_limits_by_partition(
     ensures { reader_done_of reader result ≡ set_limits_call reader limits }
 {
     check_settings(limits, reader.msgs_exec_params.open_ranges_limit)?;
-    check_state(reader.reader_state)?;
+    check_lent_state(&reader.reader_state)?;
     Ok(ExternalsReader {
         buffer_limits_by_partitions: limits,
         ..reader
@@ -185,7 +190,7 @@ pub fn set_buffer_limits_by_partition(
 pub fn get_partition_ids(reader: ExternalsReader) -> Result<[bool; 8], Refusal>
     ensures { partition_ids_of result ≡ partition_ids_call reader }
 {
-    check_state(reader.reader_state)?;
+    check_lent_state(&reader.reader_state)?;
     Ok(ranges::present_in(reader.reader_state.by_partitions))
 }
 
@@ -196,8 +201,8 @@ pub fn create_next_externals_range_state(
 ) -> Result<ExternalsRangeReaderState, Refusal>
     ensures { next_range_of result ≡ next_range_call reader }
 {
-    let state = reader.reader_state;
-    check_state(state)?;
+    let state = &reader.reader_state;
+    check_lent_state(state)?;
     let last = next::last_range(&state.ranges, state.len);
     Ok(next::next_range(
         reader.block_seqno,
@@ -304,7 +309,7 @@ pub fn read_into_buffers(
 ) -> Result<ReadIntoBuffers, Refusal>
     ensures { record { answer = read_all_answer_of reader t result; out = out.new } ≡ read_all_call lent.entry.tables.now lent.entry.area.now t lent.entry.routes.now reader mode out.old }
 {
-    questions::check_read(lent, t, reader)?;
+    questions::check_read(lent, t, &reader)?;
     if reader.all_ranges_fully_read {
         return Ok(unread(reader, t));
     }

@@ -12,8 +12,8 @@ use reader_rules::{ExternalsReader, MAX_RANGES};
 use refusals::Refusal;
 
 // A seqno not below `low`, and counts within the cap.
-fn is_sound(low: u64, range: ExternalsRangeReaderState) -> bool
-    ensures { result ≡ range_sound low range }
+fn is_sound(low: u64, range: &ExternalsRangeReaderState) -> bool
+    ensures { result ≡ range_sound low range.now }
 {
     low <= u64::from(range.seqno) && messages_buffer::check_partitions(range.by_partitions).is_ok()
 }
@@ -24,7 +24,7 @@ fn sound_ranges(ranges: &[ExternalsRangeReaderState]) -> bool
 {
     let mut low = 0;
     for range in ranges {
-        if !is_sound(low, *range) {
+        if !is_sound(low, range) {
             return false;
         }
         low = u64::from(range.seqno) + 1;
@@ -32,12 +32,12 @@ fn sound_ranges(ranges: &[ExternalsRangeReaderState]) -> bool
     true
 }
 
-// Question 5 of the ranges.
+// Question 5 of the ranges. They are lent: the table is 3,200 bytes, and only looked at.
 pub(crate) fn check_ranges(
-    ranges: [ExternalsRangeReaderState; MAX_RANGES],
+    ranges: &[ExternalsRangeReaderState; MAX_RANGES],
     len: usize,
 ) -> Result<(), Refusal>
-    ensures { number result ≡ ranges_number ranges len }
+    ensures { number result ≡ ranges_number ranges.now len }
 {
     if MAX_RANGES < len || !sound_ranges(&ranges[..len]) {
         return Err(Refusal::StateUnsound);
@@ -47,20 +47,20 @@ pub(crate) fn check_ranges(
 
 // Questions 4 and 5.
 #[tactic(auto, using(range_reader::proofs::Numbers::questions), unfolding(reader_rules::specs::State::settled_number))]
-fn check_settled(reader: ExternalsReader) -> Result<(), Refusal>
-    ensures { number result ≡ settled_number reader }
+fn check_settled(reader: &ExternalsReader) -> Result<(), Refusal>
+    ensures { number result ≡ settled_number reader.now }
 {
     crate::check_settings(
         reader.buffer_limits_by_partitions,
         reader.msgs_exec_params.open_ranges_limit,
     )?;
-    crate::check_state(reader.reader_state)
+    crate::check_lent_state(&reader.reader_state)
 }
 
 // Questions 2, 4 and 5.
 #[tactic(auto, using(range_reader::proofs::Numbers::questions), unfolding(reader_rules::specs::State::reader_number))]
-pub(crate) fn check_reader(reader: ExternalsReader) -> Result<(), Refusal>
-    ensures { number result ≡ reader_number reader }
+pub(crate) fn check_reader(reader: &ExternalsReader) -> Result<(), Refusal>
+    ensures { number result ≡ reader_number reader.now }
 {
     shard_ident::check_shard(reader.for_shard_id)?;
     check_settled(reader)
@@ -71,9 +71,9 @@ pub(crate) fn check_reader(reader: ExternalsReader) -> Result<(), Refusal>
 pub(crate) fn check_read(
     lent: Lent<'_>,
     t: AnchorsCacheTransaction,
-    reader: ExternalsReader,
+    reader: &ExternalsReader,
 ) -> Result<(), Refusal>
-    ensures { number result ≡ asked_of_read lent.entry.tables.now lent.entry.area.now t lent.entry.routes.now reader }
+    ensures { number result ≡ asked_of_read lent.entry.tables.now lent.entry.area.now t lent.entry.routes.now reader.now }
 {
     if lent.area.len() < AREA_BYTES {
         return Err(Refusal::AreaTooShort);

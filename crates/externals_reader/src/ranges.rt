@@ -67,19 +67,15 @@ fn enter(ranges: &mut [ExternalsRangeReaderState])
     }
 }
 
-// What `new` makes of a state.
+// What `new` makes of a state, in place. Behind a reference only the condition says how long the table is.
 #[tactic(auto, using(reader_rules::proofs::Each::sets_mapped))]
-pub(crate) fn entered(limits: [u16; 8], state: ExternalsReaderState) -> ExternalsReaderState
-    requires { state.len ≤ max_ranges }
-    ensures { result ≡ state_entered limits state }
+pub(crate) fn enter_state(limits: [u16; 8], state: &mut ExternalsReaderState)
+    requires { (state.old.len ≤ max_ranges) × (length state.old.ranges ≡ max_ranges) }
+    ensures { state.new ≡ state_entered limits state.old }
 {
-    let mut ranges = state.ranges;
-    enter(&mut ranges[..state.len]);
-    ExternalsReaderState {
-        ranges,
-        by_partitions: partitions_entered(limits, state.by_partitions),
-        ..state
-    }
+    let len = state.len;
+    enter(&mut state.ranges[..len]);
+    state.by_partitions = partitions_entered(limits, state.by_partitions);
 }
 
 pub(crate) fn present_in(parts: [ExternalsPartitionReaderState; 8]) -> [bool; 8]

@@ -20,10 +20,10 @@ mod ranges;
 
 // Question 5 of a reader's state; one that passes it has a slot for each of its ranges.
 #[tactic(auto, using(crate::proofs::Numbers::slots))]
-fn check_state(state: ExternalsReaderState) -> Result<(), Refusal>
-    ensures { (number result ≡ state_number state) × (0 ≡ number result → state.len ≤ max_ranges) }
+fn check_state(state: &ExternalsReaderState) -> Result<(), Refusal>
+    ensures { (number result ≡ state_number state.now) × (0 ≡ number result → state.now.len ≤ max_ranges) }
 {
-    externals_reader::check_state(state)
+    externals_reader::check_lent_state(state)
 }
 
 // The ranges that the reader holds, where its state passes question 5.
@@ -33,7 +33,7 @@ fn held_of(state: &ExternalsReaderState) -> Result<&[ExternalsRangeReaderState],
     ensures held { IfOk result (λ held. held.now ≡ held_ranges state.now) }
     ensures few { IfOk result (λ held. (length held.now ≡ state.now.len) × (state.now.len ≤ max_ranges)) }
 {
-    check_state(*state)?;
+    check_state(state)?;
     Ok(&state.ranges[..state.len])
 }
 
@@ -43,8 +43,8 @@ fn held_of(state: &ExternalsReaderState) -> Result<&[ExternalsRangeReaderState],
 pub fn finalize(reader: ExternalsReader) -> Result<ExternalsReader, Refusal>
     ensures { reader_done_of reader result ≡ finalize_call reader }
 {
-    let state = reader.reader_state;
-    let held = held_of(&state)?;
+    let state = &reader.reader_state;
+    let held = held_of(state)?;
     let len = state.len;
     let partitions = state.by_partitions;
     if !ranges::every_range(PartitionTest::InRange, partitions, held) {
@@ -65,7 +65,7 @@ pub fn open_ranges_limit_reached(reader: ExternalsReader) -> Result<bool, Refusa
 {
     let params = reader.msgs_exec_params;
     externals_reader::check_settings(reader.buffer_limits_by_partitions, params.open_ranges_limit)?;
-    check_state(reader.reader_state)?;
+    check_state(&reader.reader_state)?;
     Ok(externals_reader::open_ranges_limit(params) <= reader.reader_state.len)
 }
 
@@ -73,8 +73,8 @@ pub fn open_ranges_limit_reached(reader: ExternalsReader) -> Result<bool, Refusa
 pub fn has_non_zero_processed_offset(reader: ExternalsReader) -> Result<bool, Refusal>
     ensures { flag_answer_of result ≡ non_zero_offset_call reader }
 {
-    let state = reader.reader_state;
-    let held = held_of(&state)?;
+    let state = &reader.reader_state;
+    let held = held_of(state)?;
     Ok(!ranges::every_range(PartitionTest::Unprocessed, state.by_partitions, held))
 }
 
@@ -83,8 +83,8 @@ pub fn has_non_zero_processed_offset(reader: ExternalsReader) -> Result<bool, Re
 pub fn last_range_offset_reached(reader: ExternalsReader, par_id: u8) -> Result<bool, Refusal>
     ensures { flag_answer_of result ≡ offset_reached_call par_id reader }
 {
-    let state = reader.reader_state;
-    let held = held_of(&state)?;
+    let state = &reader.reader_state;
+    let held = held_of(state)?;
     let Some(p) = partitions::partition_at(&state.by_partitions, par_id) else {
         return Ok(true);
     };
@@ -100,9 +100,9 @@ pub fn last_range_offsets_reached_in_all_partitions(
 ) -> Result<bool, Refusal>
     ensures { flag_answer_of result ≡ offsets_reached_call reader }
 {
-    let state = reader.reader_state;
+    let state = &reader.reader_state;
     let partitions = state.by_partitions;
-    let last = ranges::last_only(held_of(&state)?);
+    let last = ranges::last_only(held_of(state)?);
     if !ranges::every_range(PartitionTest::InReader, partitions, last) {
         return Err(Refusal::NotThere);
     }
@@ -115,16 +115,16 @@ pub fn count_messages_in_buffers_by_partitions(
 ) -> Result<[Option<u32>; 8], Refusal>
     ensures { by_partitions_of result ≡ count_call reader }
 {
-    let state = reader.reader_state;
-    Ok(ranges::by_partitions(held_of(&state)?, false))
+    let state = &reader.reader_state;
+    Ok(ranges::by_partitions(held_of(state)?, false))
 }
 
 #[tactic(auto, using(anchors_cache::proofs::Refused::flag_refused), unfolding(crate::specs::Calls::has_messages_call, anchors_cache::specs::Calls::flag_answer))]
 pub fn has_messages_in_buffers(reader: ExternalsReader) -> Result<bool, Refusal>
     ensures { flag_answer_of result ≡ has_messages_call reader }
 {
-    let state = reader.reader_state;
-    let held = held_of(&state)?;
+    let state = &reader.reader_state;
+    let held = held_of(state)?;
     Ok(!ranges::every_range(PartitionTest::Empty, state.by_partitions, held))
 }
 
@@ -132,7 +132,7 @@ pub fn has_messages_in_buffers(reader: ExternalsReader) -> Result<bool, Refusal>
 pub fn has_not_fully_read_ranges(reader: ExternalsReader) -> Result<bool, Refusal>
     ensures { flag_answer_of result ≡ not_fully_read_call reader }
 {
-    check_state(reader.reader_state)?;
+    check_state(&reader.reader_state)?;
     Ok(!reader.all_ranges_fully_read)
 }
 
@@ -140,8 +140,8 @@ pub fn has_not_fully_read_ranges(reader: ExternalsReader) -> Result<bool, Refusa
 pub fn all_ranges_read_and_collected(reader: ExternalsReader) -> Result<bool, Refusal>
     ensures { flag_answer_of result ≡ read_and_collected_call reader }
 {
-    let state = reader.reader_state;
-    let held = held_of(&state)?;
+    let state = &reader.reader_state;
+    let held = held_of(state)?;
     Ok(
         reader.all_ranges_fully_read
             && ranges::every_range(PartitionTest::Empty, state.by_partitions, held),
@@ -152,8 +152,8 @@ pub fn all_ranges_read_and_collected(reader: ExternalsReader) -> Result<bool, Re
 pub fn check_all_ranges_read_and_collected(reader: ExternalsReader) -> Result<bool, Refusal>
     ensures { flag_answer_of result ≡ check_read_and_collected_call reader }
 {
-    let state = reader.reader_state;
-    let held = held_of(&state)?;
+    let state = &reader.reader_state;
+    let held = held_of(state)?;
     Ok(
         ranges::all_fully_read(held)
             && ranges::every_range(PartitionTest::Empty, state.by_partitions, held),
@@ -164,8 +164,8 @@ pub fn check_all_ranges_read_and_collected(reader: ExternalsReader) -> Result<bo
 pub fn all_read_externals_collected(reader: ExternalsReader) -> Result<bool, Refusal>
     ensures { flag_answer_of result ≡ all_collected_call reader }
 {
-    let state = reader.reader_state;
-    let held = held_of(&state)?;
+    let state = &reader.reader_state;
+    let held = held_of(state)?;
     Ok(ranges::every_range(PartitionTest::Collected, state.by_partitions, held))
 }
 
@@ -178,7 +178,7 @@ pub fn has_pending_externals(
 ) -> Result<bool, Refusal>
     ensures { flag_answer_of result ≡ pending_externals_call tables.now t reader }
 {
-    check_state(reader.reader_state)?;
+    check_state(&reader.reader_state)?;
     anchors_cache::has_pending_externals(tables, t)
 }
 
@@ -188,8 +188,8 @@ pub fn get_last_range_state_offsets_by_partitions(
 ) -> Result<[Option<u32>; 8], Refusal>
     ensures { by_partitions_of result ≡ last_offsets_call reader }
 {
-    let state = reader.reader_state;
-    let last = ranges::last_only(held_of(&state)?);
+    let state = &reader.reader_state;
+    let last = ranges::last_only(held_of(state)?);
     Ok(ranges::by_partitions(last, true))
 }
 
@@ -198,8 +198,8 @@ pub fn get_last_range_state_offsets_by_partitions(
 pub fn retain_only_last_range_state(reader: ExternalsReader) -> Result<ExternalsReader, Refusal>
     ensures { reader_done_of reader result ≡ retain_call reader }
 {
-    let state = reader.reader_state;
-    let held = held_of(&state)?;
+    let state = &reader.reader_state;
+    let held = held_of(state)?;
     let last = ranges::last_range(held).ok_or(Refusal::NotThere)?;
     let mut table = state.ranges;
     table[0] = last;
@@ -219,8 +219,8 @@ pub fn set_from_to_current_position_in_last_range_state(
 ) -> Result<ExternalsReader, Refusal>
     ensures { reader_done_of reader result ≡ set_from_call reader }
 {
-    let state = reader.reader_state;
-    let held = held_of(&state)?;
+    let state = &reader.reader_state;
+    let held = held_of(state)?;
     let mut last = ranges::last_range(held).ok_or(Refusal::NotThere)?;
     last.from = last.current_position;
     Ok(ranges::with_range(reader, state.len - 1, last))
@@ -233,7 +233,7 @@ pub fn increment_curr_processed_offset(
 ) -> Result<ExternalsReader, Refusal>
     ensures { reader_done_of reader result ≡ increment_call par_id reader }
 {
-    let state = reader.reader_state;
+    let state = &reader.reader_state;
     check_state(state)?;
     let mut p = partitions::partition_at(&state.by_partitions, par_id).ok_or(Refusal::NotThere)?;
     if p.curr_processed_offset == u32::MAX {
@@ -252,8 +252,8 @@ pub fn drop_processing_offset(
 ) -> Result<ExternalsReader, Refusal>
     ensures { reader_done_of reader result ≡ drop_call par_id drop_skip_offset reader }
 {
-    let state = reader.reader_state;
-    let held = held_of(&state)?;
+    let state = &reader.reader_state;
+    let held = held_of(state)?;
     let mut p = partitions::partition_at(&state.by_partitions, par_id).ok_or(Refusal::NotThere)?;
     let x = ranges::last_record(held, par_id).ok_or(Refusal::NotThere)?;
     let at = rows::last_place(state.len);
@@ -270,8 +270,8 @@ pub fn set_skip_processed_offset_to_current(
 ) -> Result<ExternalsReader, Refusal>
     ensures { reader_done_of reader result ≡ set_skip_call par_id reader }
 {
-    let state = reader.reader_state;
-    let held = held_of(&state)?;
+    let state = &reader.reader_state;
+    let held = held_of(state)?;
     let p = partitions::partition_at(&state.by_partitions, par_id).ok_or(Refusal::NotThere)?;
     let x = ranges::last_record(held, par_id).ok_or(Refusal::NotThere)?;
     let at = rows::last_place(state.len);
@@ -286,8 +286,8 @@ pub fn set_processed_to_current_position(
 ) -> Result<ExternalsReader, Refusal>
     ensures { reader_done_of reader result ≡ set_processed_call par_id reader }
 {
-    let state = reader.reader_state;
-    let held = held_of(&state)?;
+    let state = &reader.reader_state;
+    let held = held_of(state)?;
     let mut p = partitions::partition_at(&state.by_partitions, par_id).ok_or(Refusal::NotThere)?;
     let last = ranges::last_range(held).ok_or(Refusal::NotThere)?;
     p.processed_to = last.current_position;
@@ -304,8 +304,8 @@ pub fn messages_taken(
 ) -> Result<ExternalsReader, Refusal>
     ensures { reader_done_of reader result ≡ taken_call seqno par_id taken reader }
 {
-    let state = reader.reader_state;
-    let held = held_of(&state)?;
+    let state = &reader.reader_state;
+    let held = held_of(state)?;
     let at = ranges::place_of(held, seqno).ok_or(Refusal::NotThere)?;
     let mut x = ranges::record_of(held, at, par_id).ok_or(Refusal::NotThere)?;
     if x.count < taken {

@@ -191,9 +191,9 @@ pub(crate) fn with_range(
     requires { (at < reader.reader_state.len) × (reader.reader_state.len ≤ max_ranges) }
     ensures { result ≡ with_held (set (held_ranges reader.reader_state) at range) reader }
 {
-    let mut ranges = reader.reader_state.ranges;
-    ranges[at] = range;
-    with_ranges(reader, ranges, reader.reader_state.len)
+    let mut next = reader;
+    next.reader_state.ranges[at] = range;
+    next
 }
 
 // A range's record of a partition replaced.
