@@ -121,7 +121,7 @@ pub fn renew(reader: ExternalsReader) -> Result<ExternalsReader, Refusal>
     let mut next = reader;
     next.all_ranges_fully_read = false;
     questions::check_reader(&next)?;
-    ranges::enter_state(next.buffer_limits_by_partitions, &mut next.reader_state);
+    ranges::entered(next.buffer_limits_by_partitions, &mut next.reader_state);
     Ok(next)
 }
 
@@ -309,7 +309,7 @@ pub fn read_into_buffers(
 ) -> Result<ReadIntoBuffers, Refusal>
     ensures { record { answer = read_all_answer_of reader t result; out = out.new } ≡ read_all_call lent.entry.tables.now lent.entry.area.now t lent.entry.routes.now reader mode out.old }
 {
-    questions::check_read(lent, t, &reader)?;
+    questions::check_read(lent, t, reader)?;
     if reader.all_ranges_fully_read {
         return Ok(unread(reader, t));
     }

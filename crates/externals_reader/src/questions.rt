@@ -67,20 +67,22 @@ pub(crate) fn check_reader(reader: &ExternalsReader) -> Result<(), Refusal>
 }
 
 // Questions 1, 2, 3, 4, 5 and 9 of a read.
+// By value, lent on from here: with the caller's own reader lent, its answer's table is cleared once more, a quarter
+// more instructions in a refused call.
 #[tactic(auto, using(range_reader::proofs::Numbers::questions, std::proofs::lemmas::Bool::Decides::nat_tests), unfolding(crate::specs::Calls::asked_of_read))]
 pub(crate) fn check_read(
     lent: Lent<'_>,
     t: AnchorsCacheTransaction,
-    reader: &ExternalsReader,
+    reader: ExternalsReader,
 ) -> Result<(), Refusal>
-    ensures { number result ≡ asked_of_read lent.entry.tables.now lent.entry.area.now t lent.entry.routes.now reader.now }
+    ensures { number result ≡ asked_of_read lent.entry.tables.now lent.entry.area.now t lent.entry.routes.now reader }
 {
     if lent.area.len() < AREA_BYTES {
         return Err(Refusal::AreaTooShort);
     }
     shard_ident::check_shard(reader.for_shard_id)?;
     router::check_routes(lent.routes)?;
-    check_settled(reader)?;
+    check_settled(&reader)?;
     anchors_cache::check_cache(lent.tables, lent.area, t)?;
     if !t.active {
         return Err(Refusal::TransactionOpenOrNone);

@@ -68,8 +68,10 @@ fn enter(ranges: &mut [ExternalsRangeReaderState])
 }
 
 // What `new` makes of a state, in place. Behind a reference only the condition says how long the table is.
+// Not inlined: with its loops in line `ext_new_reader` first clears the answer's table, half the instructions again.
+#[inline(never)]
 #[tactic(auto, using(reader_rules::proofs::Each::sets_mapped))]
-pub(crate) fn enter_state(limits: [u16; 8], state: &mut ExternalsReaderState)
+pub(crate) fn entered(limits: [u16; 8], state: &mut ExternalsReaderState)
     requires { (state.old.len ≤ max_ranges) × (length state.old.ranges ≡ max_ranges) }
     ensures { state.new ≡ state_entered limits state.old }
 {

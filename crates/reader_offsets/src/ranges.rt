@@ -191,9 +191,9 @@ pub(crate) fn with_range(
     requires { (at < reader.reader_state.len) × (reader.reader_state.len ≤ max_ranges) }
     ensures { result ≡ with_held (set (held_ranges reader.reader_state) at range) reader }
 {
-    let mut next = reader;
-    next.reader_state.ranges[at] = range;
-    next
+    let mut ranges = reader.reader_state.ranges;
+    ranges[at] = range;
+    with_ranges(reader, ranges, reader.reader_state.len)
 }
 
 // A range's record of a partition replaced.
@@ -206,7 +206,9 @@ pub(crate) fn with_record_of(
     requires { (at < reader.reader_state.len) × (reader.reader_state.len ≤ max_ranges) }
     ensures { result ≡ with_held (on_place at (with_record par_id held) (held_ranges reader.reader_state)) reader }
 {
-    let mut range = reader.reader_state.ranges[at];
+    let mut next = reader;
+    let mut range = next.reader_state.ranges[at];
     partitions::put(&mut range.by_partitions, par_id, held);
-    with_range(reader, at, range)
+    next.reader_state.ranges[at] = range;
+    next
 }

@@ -1,7 +1,7 @@
 use Rattle.std.proofs.Common.{arith}
 use Rattle.reader_rules.specs.Rules.{range_entered}
 use Rattle.reader_rules.proofs.Each.{sets_mapped}
-use Rattle.externals_reader.proofs.ranges.enter_state.Goals as goal
+use Rattle.externals_reader.proofs.ranges.entered.Goals as goal
 
 pub returns : goal.returns
 returns c =
