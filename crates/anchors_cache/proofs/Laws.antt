@@ -8,7 +8,7 @@ use mathlib.Core.Logic.{◌⊎◌, inl, inr, ⊎_elim}
 use native.Mathlib.Nat.{eq-zero-or-pos}
 use native.Mathlib.Omega.{arith}
 use lib.Dec.{ltb, eqb}
-use lib.ListN.{length, take, drop, length-map, length-append}
+use lib.ListN.{length, take, drop, replicate, length-map, length-append}
 use lib.Seq.{drop-drop, sets, length-sets}
 use borrow.Author.Tests.{lt-ltb, le-ltb, ltb-true, ltb-false, eqb-true, eqb-false}
 use Rattle.std.proofs.lemmas.Bool.Decides.{nat_tests}
@@ -270,6 +270,13 @@ row_num l at w a k p q =
     let e : at + w - at ≡ w = omega arith in
     let n : length (part at w l) ≡ w = part_length l at w p in
     rw e (num_in k a (part at w l) (omega arith))
+
+-- an author, copied out of the tables
+pub author_copied : (l : List ℕ) (at : ℕ) → at + author_bytes ≤ length l → written 0 (take (at + author_bytes - at) (drop at l)) (replicate author_bytes 0) ≡ part at author_bytes l
+author_copied l at p =
+    let e : at + author_bytes - at ≡ author_bytes = omega arith in
+    let n : length (part at author_bytes l) ≡ author_bytes = part_length l at author_bytes p in
+    rw e (written_in 0 (part at author_bytes l) (replicate author_bytes 0) (omega arith) ∙ sets_all (replicate author_bytes 0) (part at author_bytes l) n)
 
 -- ---- a window of a table after an append that fits
 module _ (start from n k cap len : ℕ) (lies : start + cap ≤ len) (held : from + n ≤ cap) (space : n + k ≤ cap) where

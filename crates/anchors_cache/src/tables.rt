@@ -62,7 +62,7 @@ fn author_at(tables: &[u8], at: usize) -> [u8; AUTHOR_BYTES]
     ensures { result ≡ part at author_bytes tables.now }
 {
     let mut author = [0; AUTHOR_BYTES];
-    author.copy_from_slice(&tables[at..at + AUTHOR_BYTES]);
+    rows::copy_in(&mut author, 0, &tables[at..at + AUTHOR_BYTES]);
     author
 }
 
