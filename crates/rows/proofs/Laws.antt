@@ -395,17 +395,18 @@ le_sum (x ∷ l) (suc k) p =
     let e : y * 256 ^ suc k ≡ 256 * (256 ^ k * y) = mul_comm y (256 ^ suc k) ∙ rw pow-succ' (mul_assoc 256 (256 ^ k) y) in
     rw (h, take-suc l k 0 q, word_append (take k l) (y ∷ []), n) (omega (arith, e))
 
--- The number at the front, from the array that the library finds there. It stands in three answers: by `using` on the
--- functions the check doesn't find it (tried, also with the width as a literal).
-pub num_front : (k : ℕ) (l : List ℕ) (o : Option (Bor (List ℕ))) (p : Option (List ℕ)) (n : ℕ) → MatchOption o (length l < suc k) (λ y. IsFirstChunk l y.now (suc k)) → p ≡ option_copied o
-    → MatchOption p (n ≡ 0) (λ y. n ≡ sum_through (λ (i : ℕ). byte_worth i (get_or y i 0)) k) → n ≡ num_at (suc k) 0 l
-num_front k l None None n h f e = e ∙ sym (num_past (suc k) 0 l (omega arith))
-num_front k l None (Some z) n h f e = absurd (cc)
-num_front k l (Some y) None n h f e = absurd (cc)
-num_front k l (Some y) (Some z) n h f e =
+-- The number at the front, from the array that the library finds there; where the bytes are too few for one, what the
+-- code gives in its place is 0, a premise of its own, so that the value counts and not how it is written. It stands in
+-- three answers: by `using` on the functions the check doesn't find it (tried, also with the width as a literal).
+pub num_front : (k : ℕ) (l : List ℕ) (o : Option (Bor (List ℕ))) (p : Option (List ℕ)) (d n : ℕ) → MatchOption o (length l < suc k) (λ y. IsFirstChunk l y.now (suc k)) → p ≡ option_copied o
+    → MatchOption p (n ≡ d) (λ y. n ≡ sum_through (λ (i : ℕ). byte_worth i (get_or y i 0)) k) → (length l < suc k → d ≡ 0) → n ≡ num_at (suc k) 0 l
+num_front k l None None d n h f e z = e ∙ (z h ∙ sym (num_past (suc k) 0 l (omega arith)))
+num_front k l None (Some y) d n h f e z = absurd (cc)
+num_front k l (Some y) None d n h f e z = absurd (cc)
+num_front k l (Some y) (Some x) d n h f e z =
     let m : length y.now ≡ suc k = rw h.same (length-take-le (suc k) l h.enough) in
     let q : take (suc k) y.now ≡ take (suc k) l = take_all (suc k) y.now (omega arith) ∙ h.same in
-    let j : z ≡ y.now = cc in
+    let j : x ≡ y.now = cc in
     rw j at e ∙ (le_sum y.now k (omega arith) ∙ (ap word q ∙ sym (num_in (suc k) 0 l (omega (arith, h.enough)))))
 
 -- the number at a place is the one at the front of what stands from there on
