@@ -80,6 +80,10 @@ part_stored l at k vs h e = rw (e, drop-drop (length vs) at l, sets-eq vs l at h
 pub sets_snoc : {A : Type 0} (l : List A) (i : ℕ) (vs : List A) (v : A) → sets l i (vs ++ (v ∷ [])) ≡ set (sets l i vs) (i + length vs) v
 sets_snoc l i vs v = sets_append l i vs (v ∷ [])
 
+-- what a move stored, by another writing of the place that it came from
+pub part_moved : {A : Type 0} (new l : List A) (to n x y : ℕ) → new ≡ sets l to (part x n l) → x ≡ y → new ≡ sets l to (part y n l)
+part_moved new l to n x y e z = e ∙ ap (λ (k : ℕ). sets l to (part k n l)) z
+
 -- a turn of a copy
 pub copy_more : {A : Type 0} (d : A) (l : List A) (at : ℕ) (src : List A) (i : ℕ) → i < length src → set (sets l at (take i src)) (at + i) (get_or src i d) ≡ sets l at (take (i + 1) src)
 copy_more d l at src i p =

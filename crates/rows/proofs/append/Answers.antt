@@ -1,7 +1,7 @@
 -- Room behind: one copy. No room: the bytes go down, then the copy stands behind them.
 use borrow.Author.Tests.{leb-true}
 use Rattle.rows.specs.Rows.{part, appended}
-use Rattle.rows.proofs.Laws.{append_refused, append_asks, append_done, written_in}
+use Rattle.rows.proofs.Laws.{append_refused, append_asks, append_done, written_in, part_moved}
 use Prim.Native.Nat.{◌+◌, ◌≤◌}
 use lib.ListN.{length}
 use lib.Seq.{length-sets}
@@ -36,6 +36,7 @@ returns c =
     let w = c.sum_within in
     let f = append_asks a.start a.from a.n a.cap a.new.now a.s.now room.result room.ensures.value c.if-not-has_room.false-raw in
     let t = sym w.ensures ∙ c.if-sum_within.false in
-    let m : length c.move_down_in.new.s ≡ length a.s.now = rw c.move_down_in.ensures (length-sets a.s.now a.start (part (a.start + a.from) a.n a.s.now)) in
+    let down = part_moved c.move_down_in.new.s a.s.now a.start a.n _ (a.start + a.from) c.move_down_in.ensures (omega arith) in
+    let m : length c.move_down_in.new.s ≡ length a.s.now = rw down (length-sets a.s.now a.start (part (a.start + a.from) a.n a.s.now)) in
     append_done a.start a.from a.n a.cap a.new.now a.s.now room.result room.ensures.value c.if-not-has_room.false-raw w.result false _ c.if-sum_within.false w.ensures
-    (c.copy_in-2.ensures ∙ rw t (written_in (a.start + a.n) a.new.now c.move_down_in.new.s (omega arith) ∙ rw c.move_down_in.ensures))
+    (c.copy_in-2.ensures ∙ rw t (written_in (a.start + a.n) a.new.now c.move_down_in.new.s (omega arith) ∙ rw down))

@@ -42,7 +42,7 @@ messages_read-requires c =
     let f = c.first_unread-from in
     let w = c.look in
     let n = rest_count a.lent.area.now a.a.place a.a.count _ f.result f.ensures.0 f.ensures.1 r.placed in
-    (r.fixed, omega (arith, n, r.few.few, f.ensures.2 c.if-offset-a.true), rw n (record { few = omega (arith, r.few.few); within = within_up a.x (max_messages - a.a.count) _ (subst (Within a.x (max_messages - a.a.count)) (sym w.ensures) (within_looked a.x _ a.a.id (walk_told a.r.now.walk) r.few.within)) _ (omega arith) }), subst Eight (sym w.ensures) (eight_looked (walk_told a.r.now.walk) r.eight a.x a.a.id), looked_reached a.x a.a.id (walk_told a.r.now.walk) (walk_told w.new.w) w.ensures)
+    (r.fixed, omega (arith, n, r.few.few, f.ensures.2 (omega (arith, c.if-offset-a.true))), rw n (record { few = omega (arith, r.few.few); within = within_up a.x (max_messages - a.a.count) _ (subst (Within a.x (max_messages - a.a.count)) (sym w.ensures) (within_looked a.x _ a.a.id (walk_told a.r.now.walk) r.few.within)) _ (omega arith) }), subst Eight (sym w.ensures) (eight_looked (walk_told a.r.now.walk) r.eight a.x a.a.id), looked_reached a.x a.a.id (walk_told a.r.now.walk) (walk_told w.new.w) w.ensures)
 
 pub returns-in_err-messages_read : goal.returns-in_err-messages_read
 returns-in_err-messages_read c =
@@ -63,5 +63,5 @@ returns c =
     let says = λ (s : RangeRead). range_tells q (finished a.x a.a.chain_time a.a.count (walk_told s.walk) (range_told s)) in
     elim c.if-offset-a.branch [
       | then-offset-a+in_ok-messages_read v ↦ rw v.out-is (anchor_walked a.x a.lent.routes.now a.lent.area.now a.a.id a.a.chain_time a.a.place a.a.count (range_told a.r.now) a.write a.out.now (walk_told w.new.w) f.result c.if-a-x.false w.ensures f.ensures.0 f.ensures.1 c.requires.placed e _ _ q v.in_ok-messages_read.ensures (subst says v.r-is c.finish.ensures))
-      | else-offset-a v ↦ rw v.out-is (past_tells a.x a.lent.routes.now a.lent.area.now a.a.id a.a.chain_time a.a.place a.a.count (range_told a.r.now) a.write a.out.now (walk_told w.new.w) f.result c.if-a-x.false w.ensures f.ensures.0 f.ensures.1 c.requires.placed e q v.if-offset-a.false (subst says v.r-is c.finish.ensures))
+      | else-offset-a v ↦ rw v.out-is (past_tells a.x a.lent.routes.now a.lent.area.now a.a.id a.a.chain_time a.a.place a.a.count (range_told a.r.now) a.write a.out.now (walk_told w.new.w) f.result c.if-a-x.false w.ensures f.ensures.0 f.ensures.1 c.requires.placed e q (omega (arith, v.if-offset-a.false)) (subst says v.r-is c.finish.ensures))
     ]
